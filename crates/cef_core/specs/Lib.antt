@@ -1,0 +1,10 @@
+pub mod Sublattices
+pub mod Constitutions
+pub mod Parameters
+pub mod Mixing
+pub mod Magnetism
+pub mod Energies
+pub mod Assemblages
+pub mod Holding
+pub mod Certificates
+pub mod Texts
