@@ -1,0 +1,3 @@
+pub mod Pure
+pub mod Figuring
+pub mod Reporting
