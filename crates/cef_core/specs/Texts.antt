@@ -14,7 +14,7 @@ Word = List ℕ
 abbrev pub Line : Type 0
 Line = List ℕ
 
-abbrev pub line : List Word → Line
+unfoldable pub line : List Word → Line
 line words = join_with_byte 32 words ++ 10 ∷ []
 
 -- a word and whole numbers
