@@ -1,5 +1,5 @@
 -- files by name, where one is found, replaced or added
-use Rattle.std.proofs.Common.{◌≡◌, ℕ, List, [], ◌∷◌, ◌++◌, length, Option, Some, None, ◌<◌, ◌≤◌, ◌+◌, suc, refl, arith, ap, sym, ◌∙◌, Bool, true, false, cond, find, position, bytes_eq, slice_set, not, nat_lt}
+use Rattle.std.proofs.Common.{◌≡◌, ℕ, List, [], ◌∷◌, ◌++◌, length, Option, Some, None, ◌<◌, ◌≤◌, arith, ap, sym, cond, find, position, bytes_eq, slice_set}
 use Rattle.std.specs.Option.{option_map}
 use Rattle.std.specs.List.{position_or_len}
 use Rattle.std.proofs.lemmas.Grind.{common_steps}

@@ -3,7 +3,7 @@ use Rattle.std.specs.Prelude.{ℕ, List, Option, find, bytes_eq}
 use Rattle.std.specs.Option.{option_map}
 
 -- files by name, the numbers of the calls that fail, and the counts
-pub record Shelf : Type 0 where
+pub record LibraryState : Type 0 where
   pub files : List (List ℕ × List ℕ)
   pub failing : List ℕ
   pub calls : ℕ
@@ -15,7 +15,7 @@ abbrev pub file_of : List (List ℕ × List ℕ) → List ℕ → Option (List �
 file_of files name = option_map (λ f. f.1) (find (λ f. bytes_eq f.0 name) files)
 
 -- the most bytes of a put, the most of all, what was taken, the numbers of the puts that fail, and the counts
-pub record Scroll : Type 0 where
+pub record SinkState : Type 0 where
   pub room : ℕ
   pub most : ℕ
   pub taken : List ℕ

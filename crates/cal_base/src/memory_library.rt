@@ -1,7 +1,7 @@
 ghost use Rattle.std.specs.Prelude.{◌≡◌, ◌<◌, ◌≤◌, ◌+◌, ◌-◌, ◌⊎◌, ◌++◌, ◌∷◌, [], List, ℕ, Some, None, Ok, Err, OnOk, OnErr, IfOk, IsErr, IsErrOf, IsSome, IfSome, Contains, min, length, find, position, bytes_eq, cond};
 ghost use Rattle.std.specs.Option.{option_copied, MatchOption};
 ghost use Rattle.cal_base.specs.Outside.{Reads, TellsFile, LacksFile, Rose, RaisedBy, next_count};
-ghost use Rattle.cal_base.specs.InMemory.{Shelf, file_of};
+ghost use Rattle.cal_base.specs.InMemory.{LibraryState, file_of};
 
 use crate::fault::Failed;
 use crate::outside::Library;
@@ -52,9 +52,9 @@ pub struct MemoryLibrary {
 }
 
 impl Model for MemoryLibrary {
-    ghost use Rattle.cal_base.specs.InMemory.{Shelf};
+    ghost use Rattle.cal_base.specs.InMemory.{LibraryState};
 
-    ghost Value = { Shelf };
+    ghost Value = { LibraryState };
 
     ghost view = { λ m. record { files = m.files.items; failing = m.failing.items; calls = m.calls; given = m.given; faults = m.faults } };
 }

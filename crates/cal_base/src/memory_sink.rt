@@ -20,9 +20,9 @@ pub struct MemorySink {
 
 impl Model for MemorySink {
     ghost use Rattle.std.specs.Prelude.{◌<◌, ◌≤◌, vec_len, vec_capacity};
-    ghost use Rattle.cal_base.specs.InMemory.{Scroll};
+    ghost use Rattle.cal_base.specs.InMemory.{SinkState};
 
-    ghost Value = { Scroll };
+    ghost Value = { SinkState };
 
     ghost view = { λ s. record { room = s.room; most = s.most; taken = s.taken.items; failing = s.failing.items; calls = s.calls; faults = s.faults } };
 

@@ -14,9 +14,7 @@ log_step i = sum_below 15 (λ j. log_summand i (2 * j + 1))
 
 -- the logarithm of n
 unfoldable pub log_of : ℕ → ℕ
-log_of zero = 0
-log_of (suc zero) = 0
-log_of (suc (suc n)) = log_of (suc n) + log_step (suc (suc n))
+log_of n = sum_below (n - 1) (λ k. log_step (k + 2))
 
 -- the logarithm of 1 + micro / 10^6, linear between the thousandths
 unfoldable pub log_between : ℕ → ℕ

@@ -1,4 +1,4 @@
-use Rattle.std.proofs.Common.{rules, ◌≡◌, ◌++◌, ◌∷◌, [], List, ℕ, None, position, bytes_eq}
+use Rattle.std.proofs.Common.{rules, ◌≡◌, ◌++◌, ◌∷◌, [], None, position, bytes_eq}
 use Rattle.cal_base.proofs.Files.{file_of-push}
 use Rattle.cal_base.proofs.memory_library.MemoryLibrary.add.Goals as goal
 

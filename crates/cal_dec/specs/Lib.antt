@@ -1,0 +1,9 @@
+pub mod Decimals
+pub mod Numerals
+pub mod Printed
+pub mod Products
+pub mod Scales
+pub mod Scanning
+pub mod Signs
+pub mod Tens
+pub mod Trimming

@@ -1,0 +1,16 @@
+//! Numbers of up to 18 decimal digits with an exponent of ten: read, multiplied, scaled to whole numbers and printed.
+#![tactic(auto)]
+
+mod dec;
+mod numeral;
+mod printing;
+mod products;
+mod reading;
+mod scaling;
+mod trimming;
+
+pub use dec::Dec;
+pub use printing::{print_fixed, print_whole};
+pub use products::{mul, power};
+pub use reading::{DecFault, read_dec};
+pub use scaling::{TooLarge, below, to_nano};

@@ -1,0 +1,5 @@
+pub mod Rows
+pub mod Columns
+pub mod Ratios
+pub mod Held
+pub mod Steps

@@ -1,0 +1,20 @@
+//! Exact linear plans: whole columns, and the rows of a basis of them.
+#![tactic(auto)]
+
+mod basis;
+mod column;
+mod divisor;
+mod fit;
+mod ratio;
+mod row;
+#[cfg(test)]
+mod tests;
+mod unit;
+
+pub use basis::exchange;
+pub use column::Column;
+pub use divisor::gcd;
+pub use fit::fits;
+pub use ratio::{compare, compare_signed};
+pub use row::{Row, product};
+pub use unit::units;

@@ -1,0 +1,15 @@
+pub mod Pigeon
+pub mod Mean
+pub mod Sums
+pub mod Skip
+pub mod Exchange
+pub mod Fraction
+pub mod Count
+pub mod Bezout
+pub mod Bounds
+pub mod Potentials
+pub mod Parts
+pub mod Units
+pub mod Unique
+pub mod Reduced
+pub mod Own

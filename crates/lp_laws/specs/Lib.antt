@@ -1,0 +1,5 @@
+pub mod Vectors
+pub mod Orders
+pub mod Bases
+pub mod Bounds
+pub mod Laws

@@ -1,0 +1,11 @@
+//! A thermodynamic database text, cut into its commands.
+#![tactic(auto)]
+
+mod command;
+mod cutter;
+mod line;
+#[cfg(test)]
+mod tests;
+
+pub use command::{Command, CommandList};
+pub use cutter::commands;
