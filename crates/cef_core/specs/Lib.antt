@@ -4,6 +4,7 @@ pub mod Parameters
 pub mod Mixing
 pub mod Magnetism
 pub mod Energies
+pub mod Pure
 pub mod Assemblages
 pub mod Holding
 pub mod Certificates

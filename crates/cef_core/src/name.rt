@@ -10,7 +10,7 @@ use std::hash::{Hash, Hasher};
 use std::marker::Model;
 
 /// A name of an element, a phase or a constituent. It may hold any bytes; contracts see the list of them.
-#[derive(Drop)]
+#[derive(Debug, Drop)]
 pub struct Name {
     text: Vec<u8>,
 }

@@ -8,7 +8,8 @@ use Rattle.cef_core.specs.declared.system.System.{System}
 use Rattle.cef_core.specs.Constitutions.{content}
 use Rattle.cef_core.specs.Energies.{energy}
 use Rattle.cef_core.specs.Certificates.{IsAbove}
-use Rattle.eq_solve.specs.Pure.{IsPure, IsNoHigher, ratio_of, reference_of}
+use Rattle.cef_core.specs.Pure.{IsPure, ratio_of, reference_of}
+use Rattle.eq_solve.specs.Comparing.{IsNoHigher}
 use Rattle.eq_solve.proofs.Least.{pure_at}
 use Rattle.eq_solve.proofs.Energies.{all_of, pure_energy, pure_content, pure_counts}
 

@@ -11,7 +11,7 @@ use Rattle.cef_core.specs.declared.report.Report.{Report}
 use Rattle.cef_core.specs.Assemblages.{at}
 use Rattle.cef_core.specs.Certificates.{IsCertified, MeetsGap, valued}
 use Rattle.eq_solve.specs.declared.figures.Figures.{Figures}
-use Rattle.eq_solve.specs.Pure.{IsPure, ratio_of, reference_of}
+use Rattle.cef_core.specs.Pure.{IsPure, ratio_of, reference_of}
 use Rattle.eq_solve.specs.Figuring.{AreFigures, AreNumbers}
 use Rattle.eq_solve.specs.Reporting.{Reports}
 use Rattle.eq_solve.proofs.Least.{pure_at}

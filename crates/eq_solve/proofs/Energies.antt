@@ -15,7 +15,7 @@ use Rattle.cef_core.specs.Constitutions.{HasShape, content}
 use Rattle.cef_core.specs.Parameters.{parameter_value}
 use Rattle.cef_core.specs.Mixing.{mixing_at}
 use Rattle.cef_core.specs.Energies.{energy, sum_of_kind, is_energy}
-use Rattle.eq_solve.specs.Pure.{IsPure, IsReference, ratio_of, reference_of}
+use Rattle.cef_core.specs.Pure.{IsPure, IsReference, ratio_of, reference_of}
 
 -- the one list of counts of a pure phase
 abbrev pub all_of : ℕ → List (List ℕ)

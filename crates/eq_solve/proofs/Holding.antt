@@ -14,7 +14,7 @@ use Rattle.cef_core.specs.Certificates.{valued}
 use Rattle.cef_core.specs.Holding.{Holds}
 use Rattle.cef_core.proofs.Sound.{IsWithin-from_certificate}
 use Rattle.eq_solve.specs.declared.figures.Figures.{Figures}
-use Rattle.eq_solve.specs.Pure.{IsPure, ratio_of, reference_of}
+use Rattle.cef_core.specs.Pure.{IsPure, ratio_of, reference_of}
 use Rattle.eq_solve.specs.Figuring.{AreFigures}
 use Rattle.eq_solve.specs.Reporting.{Reports}
 use Rattle.eq_solve.proofs.Least.{pure_at}

@@ -6,7 +6,8 @@ use Rattle.std.proofs.lemmas.Option.{slice_get_within, get_or_from_slice_get}
 use Rattle.std.proofs.lemmas.Bool.{cases_lt}
 use Rattle.cal_math.specs.Whole.{cross_trans}
 use Rattle.cef_core.specs.declared.phase.PhaseAt.{PhaseAt}
-use Rattle.eq_solve.specs.Pure.{IsNoHigher, IsPure, ratio_of, reference_of}
+use Rattle.cef_core.specs.Pure.{IsPure, ratio_of, reference_of}
+use Rattle.eq_solve.specs.Comparing.{IsNoHigher}
 
 pub record IsLeastBelow (phases : List PhaseAt) (at i : ℕ) : Type 0 where
   pub before : at < i

@@ -7,7 +7,7 @@ use Rattle.cal_math.specs.Whole.{*ℤ-≤}
 use Rattle.cef_core.specs.declared.phase.PhaseAt.{PhaseAt}
 use Rattle.cef_core.specs.declared.phase.ParamAt.{ParamAt}
 use Rattle.std.specs.List.{AllByRecursion}
-use Rattle.eq_solve.specs.Pure.{IsPure, IsReference, ratio_of, reference_of}
+use Rattle.cef_core.specs.Pure.{IsPure, IsReference, ratio_of, reference_of}
 
 pub total_size : (content amount asked : ℤ) → pos 1 ≤ℤ content → pos 1 ≤ℤ amount → (content *ℤ amount) ≤ℤ asked → asked ≤ℤ pos (2 ^ 50) → unsigned_abs (content *ℤ amount) ≤ 2 ^ 50
 total_size content amount asked c a le high = omega (arith, ints, *ℤ-≤ content (pos 0) amount (omega (arith, ints)) (omega (arith, ints)))

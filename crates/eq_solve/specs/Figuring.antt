@@ -1,7 +1,8 @@
 -- The numbers of a report of one entry.
 use Rattle.std.specs.Prelude.{◌≡◌, ℕ, ◌*◌, List, Some, slice_get, ℤ, pos, ◌+ℤ◌, ◌-ℤ◌, ◌*ℤ◌, ◌≤ℤ◌, ◌<ℤ◌}
 use Rattle.cef_core.specs.declared.phase.PhaseAt.{PhaseAt}
-use Rattle.eq_solve.specs.Pure.{IsNoHigher, ratio_of, reference_of}
+use Rattle.cef_core.specs.Pure.{ratio_of, reference_of}
+use Rattle.eq_solve.specs.Comparing.{IsNoHigher}
 use Rattle.eq_solve.specs.declared.figures.Figures.{Figures}
 
 -- a whole amount of a phase of this content and reference energy, and a potential that lies below it by the margin or by

@@ -1,3 +1,3 @@
-pub mod Pure
+pub mod Comparing
 pub mod Figuring
 pub mod Reporting

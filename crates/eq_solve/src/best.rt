@@ -1,7 +1,8 @@
 ghost use Rattle.std.specs.Prelude.{◌≡◌, ◌<◌, ◌≤◌, ◌*◌, length, slice_get, Some, All, ℕ};
 ghost use Rattle.std.specs.Bool.{OnTrue, OnFalse};
 ghost use Rattle.cef_core.specs.declared.phase.PhaseAt.{PhaseAt};
-ghost use Rattle.eq_solve.specs.Pure.{IsPure, IsNoHigher};
+ghost use Rattle.cef_core.specs.Pure.{IsPure};
+ghost use Rattle.eq_solve.specs.Comparing.{IsNoHigher};
 
 use crate::pure::{ratio, reference};
 use cef_core::PhaseAt;

@@ -1,5 +1,5 @@
 ghost use Rattle.std.specs.Prelude.{◌≡◌, ◌<◌, ◌≤◌, ◌*◌, ◌^◌, length, All, pos, unsigned_abs, ◌≤ℤ◌};
-ghost use Rattle.eq_solve.specs.Pure.{IsPure};
+ghost use Rattle.cef_core.specs.Pure.{IsPure};
 ghost use Rattle.eq_solve.specs.Figuring.{AreFigures, AreNumbers};
 
 use crate::best::best;

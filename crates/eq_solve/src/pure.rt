@@ -1,5 +1,5 @@
 ghost use Rattle.std.specs.Prelude.{◌≡◌, ◌<◌, ◌≤◌, ◌*◌, length, pos};
-ghost use Rattle.eq_solve.specs.Pure.{IsPure, ratio_of, reference_of};
+ghost use Rattle.cef_core.specs.Pure.{IsPure, ratio_of, reference_of};
 
 use cef_core::PhaseAt;
 

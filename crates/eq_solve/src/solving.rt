@@ -1,7 +1,7 @@
 ghost use Rattle.std.specs.Prelude.{◌≡◌, ◌<◌, ◌≤◌, ◌*◌, ◌^◌, ◌∷◌, [], IfOk, length, All, replicate, pos, ◌≤ℤ◌};
 ghost use Rattle.cef_core.specs.Holding.{Holds};
 ghost use Rattle.cef_core.specs.Certificates.{IsCertified};
-ghost use Rattle.eq_solve.specs.Pure.{IsPure};
+ghost use Rattle.cef_core.specs.Pure.{IsPure};
 ghost use Rattle.eq_solve.specs.Reporting.{single_leaf};
 
 use crate::figures::figures_of;

@@ -3,7 +3,7 @@ use Rattle.std.specs.Prelude.{pos}
 use Rattle.std.specs.Int.{w128}
 use Rattle.std.proofs.lemmas.Int.{ints, to_z-of_z}
 use Rattle.std.proofs.lemmas.Option.{slice_get_read}
-use Rattle.eq_solve.specs.Pure.{ratio_of}
+use Rattle.cef_core.specs.Pure.{ratio_of}
 use Rattle.eq_solve.proofs.Least.{pure_at}
 use Rattle.eq_solve.proofs.figures.figures_of.Goals as goal
 

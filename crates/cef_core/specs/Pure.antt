@@ -1,5 +1,5 @@
 -- Phases of one constitution, all of one element.
-use Rattle.std.specs.Prelude.{◌≡◌, ℕ, ◌<◌, ◌≤◌, ◌^◌, List, [], ◌∷◌, Some, None, length, slice_index, false, ℤ, pos, unsigned_abs, ◌*ℤ◌, ◌≤ℤ◌}
+use Rattle.std.specs.Prelude.{◌≡◌, ℕ, ◌<◌, ◌≤◌, ◌^◌, List, [], ◌∷◌, Some, None, length, slice_index, false, ℤ, pos, unsigned_abs}
 use Rattle.std.specs.List.{AllByRecursion}
 use Rattle.cef_core.specs.declared.kind.Kind.TheVariants.{G}
 use Rattle.cef_core.specs.declared.phase.ParamAt.{ParamAt}
@@ -31,7 +31,3 @@ pub record IsPure (lattice : ℕ) (phase : PhaseAt) : Type 0 where
   pub one_parameter : length phase.parameters ≤ 1
   pub references : AllByRecursion IsReference phase.parameters
   pub no_magnetism : phase.magnetic ≡ None
-
--- a has at most the energy of b, both for an equal content
-abbrev pub IsNoHigher : PhaseAt → PhaseAt → Type 0
-IsNoHigher a b = (reference_of a.parameters *ℤ pos (ratio_of b)) ≤ℤ (reference_of b.parameters *ℤ pos (ratio_of a))
