@@ -132,10 +132,6 @@ no_sign-digits : (ds : List ℕ) → AllDigits 10 ds → NoSign ds
 no_sign-digits [] all = tt
 no_sign-digits (d ∷ ds) all = (digit-no_plus d (value-digit d all.0), digit-no_minus d (value-digit d all.0))
 
-append-nil' : (l : List ℕ) → l ++ [] ≡ l
-append-nil' [] = refl
-append-nil' (x ∷ l) = ap (λ (z : List ℕ). x ∷ z) (append-nil' l)
-
 power_again : (p : Option Power) → IsPower p → power_in (power_text p) ≡ Some p
 unfolding power_in
 power_again None is = refl
@@ -183,9 +179,11 @@ numeral_found t n e = by_power (power_in (after_fraction rest)) refl e
   where
     rest : List ℕ
     rest = after_digits (after_sign t)
+
     text_is : (p : Option Power) → after_fraction rest ≡ power_text p → t ≡ sign_text (sign_in t) ++ (digits_in (after_sign t) ++ (fraction_text (fraction_in rest) ++ power_text p))
     text_is p e =
         sign_found t ∙ ap (λ r. sign_text (sign_in t) ++ r) ((digits_found (after_sign t)).0 ∙ ap (λ r. digits_in (after_sign t) ++ r) ((fraction_found rest).0 ∙ ap (λ r. fraction_text (fraction_in rest) ++ r) e))
+
     by_some : (p : Option Power) (v : Bool) → nat_lt 0 (length (digits_in (after_sign t)) + length (digits_behind (fraction_in rest))) ≡ v → after_fraction rest ≡ power_text p → IsPower p
         → cond v (Some (record { sign = sign_in t; whole = digits_in (after_sign t); fraction = fraction_in rest; power = p })) None ≡ Some n → Spells n t
     by_some p true some text is e =
@@ -193,9 +191,10 @@ numeral_found t n e = by_power (power_in (after_fraction rest)) refl e
         let same : found ≡ n = cc in
         subst (λ (n : Numeral). Spells n t) same (record {
           parts = record { whole = (digits_found (after_sign t)).1; fraction = (fraction_found rest).1; some = ltb-true _ _ some; power = is };
-          text_is = text_is p text
+          text_is = text_is p text;
         })
     by_some p false some text is e = absurd cc
+
     by_power : (q : Option (Option Power)) → power_in (after_fraction rest) ≡ q → numeral_if (sign_in t) (digits_in (after_sign t)) (fraction_in rest) q ≡ Some n → Spells n t
     by_power None is e = absurd cc
     by_power (Some p) is e =
@@ -218,6 +217,7 @@ no_digits t none = by_power (power_in (after_fraction (after_digits (after_sign 
   where
     off : nat_lt 0 (length (digits_in (after_sign t)) + length (digits_behind (fraction_in (after_digits (after_sign t))))) ≡ false
     off = le-ltb _ _ (omega arith)
+
     by_power : (q : Option (Option Power)) → numeral_if (sign_in t) (digits_in (after_sign t)) (fraction_in (after_digits (after_sign t))) q ≡ None
     by_power None = refl
     by_power (Some p) = rw off refl
@@ -230,8 +230,10 @@ kept t e o minus before behind is some filled m b d = by_power (power_in (after_
   where
     rest : List ℕ
     rest = after_digits (after_sign t)
+
     on : nat_lt 0 (length (digits_in (after_sign t)) + length (digits_behind (fraction_in rest))) ≡ true
     on = lt-ltb _ _ (omega (arith, ap length b, ap length d))
+
     by_power : (q : Option (Option Power)) → power_in (after_fraction rest) ≡ q → Some e ≡ capped (power_in (after_fraction rest)) → (n : Numeral) × (numeral_in t ≡ Some n) × IsKept n minus before behind e
     by_power None q same = let other : Some e ≡ capped None = same ∙ ap capped q in absurd cc
     by_power (Some p) q same =

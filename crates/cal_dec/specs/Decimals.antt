@@ -11,6 +11,10 @@ pub record Decimal : Type 0 where
 abbrev pub decimal_of : Dec → Decimal
 decimal_of d = record { mantissa = d.mantissa; exponent = d.exponent }
 
+-- a whole number
+abbrev pub whole_number : ℤ → Decimal
+whole_number z = record { mantissa = z; exponent = pos 0 }
+
 -- how many of its digits a number has above 18
 unfoldable pub digits_over : ℕ → ℕ
 digits_over n = length (decimal n) - 18

@@ -1,7 +1,10 @@
 pub mod Decimals
+pub mod Digits
+pub mod First
 pub mod Numerals
 pub mod Printed
 pub mod Products
+pub mod Rereading
 pub mod Scales
 pub mod Scanning
 pub mod Signs

@@ -1,6 +1,6 @@
 -- Numbers as they are written: an optional sign, digits with at most one point before, among or behind them, and
 -- optionally E with an optional sign and digits; and what such a text is read as.
-use Rattle.std.specs.Prelude.{◌≡◌, ℕ, ◌+◌, ◌<◌, List, [], ◌∷◌, ◌++◌, length, Option, Some, None, Bool, true, false, cond, ◌==◌, ℤ, pos, ◌-ℤ◌}
+use Rattle.std.specs.Prelude.{◌≡◌, ℕ, ◌+◌, ◌<◌, ◌≤◌, List, [], ◌∷◌, ◌++◌, length, Option, Some, None, Bool, true, false, cond, ◌==◌, ℤ, pos, ◌-ℤ◌}
 use Rattle.std.specs.Str.Parse.{AllDigits, digits_value}
 use Rattle.cal_dec.specs.Decimals.{Decimal, trimmed}
 use Rattle.cal_dec.specs.Signs.{signed}
@@ -89,3 +89,7 @@ decimal_from minus magnitude exponent =
 -- what the number is read as
 abbrev pub value_of : Numeral → Decimal
 value_of n = decimal_from (is_minus n.sign) (magnitude_of n) (exponent_of n)
+
+-- the text is at most 64 bytes, and read as d
+abbrev pub IsReadAs : List ℕ → Decimal → Type 0
+IsReadAs text d = (n : Numeral) × Spells n text × (value_of n ≡ d) × (length text ≤ 64)

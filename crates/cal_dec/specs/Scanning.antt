@@ -1,12 +1,13 @@
--- The parts of a number one behind the other: the sign, the longest front of digits, a point and the longest front of digits behind
--- it, and E with its sign and digits up to the end. What is found spells the text, and the parts of a spelled text are found again.
-use Rattle.std.proofs.Common.{◌≡◌, ℕ, suc, ◌+◌, List, [], ◌∷◌, length, take, drop, Option, Some, None, Bool, true, false, cond, refl, ap, ◌∙◌, arith}
-use Rattle.std.specs.Prelude.{◌==◌, ◌&&◌, nat_lt, not, min, ℤ, pos}
+-- The parts of a number one behind the other, as the code finds them: the sign, the longest front of digits, a point and the longest
+-- front of digits behind it, and E with its sign and digits up to the end.
+use Rattle.std.proofs.Common.{◌≡◌, ℕ, suc, ◌+◌, List, [], ◌∷◌, ◌++◌, length, take, drop, Option, Some, None, Bool, true, false, cond, refl, ap, ◌∙◌, arith}
+use Rattle.std.specs.Prelude.{◌==◌, ◌&&◌, nat_lt, not, min, ℤ, pos, ◌-ℤ◌}
 use Rattle.std.specs.Char.{is_ascii_digit}
 use Rattle.std.specs.Str.Parse.{digits_value}
+use Rattle.cal_dec.specs.Decimals.{Decimal}
 use Rattle.cal_dec.specs.Signs.{signed}
 use Rattle.std.specs.List.{prefix_len, list_all}
-use Rattle.cal_dec.specs.Numerals.{Sign, Absent, Plus, Minus, is_minus, Power, Numeral, digits_behind}
+use Rattle.cal_dec.specs.Numerals.{Sign, Absent, Plus, Minus, is_minus, Power, Numeral, digits_behind, decimal_from}
 
 -- ---- the sign
 
@@ -107,3 +108,11 @@ pub record IsKept (n : Numeral) (minus : Bool) (before behind : List ℕ) (power
   pub whole : before ≡ n.whole
   pub fraction : behind ≡ digits_behind n.fraction
   pub exponent : power ≡ capped_power n.power
+
+-- the text is that of a numeral, and these are kept of it
+abbrev pub IsFound : List ℕ → Bool → List ℕ → List ℕ → ℤ → Type 0
+IsFound text minus before behind power = (n : Numeral) × (numeral_in text ≡ Some n) × IsKept n minus before behind power
+
+-- what is read of the parts that are kept
+abbrev pub decimal_kept : Bool → List ℕ → List ℕ → ℤ → Decimal
+decimal_kept minus before behind power = decimal_from minus (digits_value 10 (before ++ behind)) (power -ℤ pos (length behind))

@@ -2,6 +2,7 @@
 #![tactic(auto)]
 
 mod dec;
+mod laws;
 mod numeral;
 mod printing;
 mod products;
@@ -10,6 +11,7 @@ mod scaling;
 mod trimming;
 
 pub use dec::Dec;
+pub use laws::{printed_is_read, trimming_is_least};
 pub use printing::{print_fixed, print_whole};
 pub use products::{mul, power};
 pub use reading::{DecFault, read_dec};

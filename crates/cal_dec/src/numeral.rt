@@ -2,11 +2,12 @@ ghost use Rattle.std.specs.Prelude.{◌≡◌, ◌≤◌, length, min, MatchOpti
 ghost use Rattle.std.specs.Str.Parse.{AllDigits, digits_value};
 ghost use Rattle.std.specs.List.{list_all, prefix_len};
 ghost use Rattle.std.specs.Char.{is_ascii_digit};
-ghost use Rattle.cal_dec.specs.Numerals.{Numeral as Parts, is_minus, digits_behind};
-ghost use Rattle.cal_dec.specs.Scanning.{sign_in, after_sign, digits_in, after_digits, fraction_in, after_fraction, power_in, capped, numeral_in, IsKept};
+ghost use Rattle.cal_dec.specs.Numerals.{is_minus, digits_behind};
+ghost use Rattle.cal_dec.specs.Scanning.{sign_in, after_sign, digits_in, after_digits, fraction_in, after_fraction, power_in, capped, numeral_in, IsFound};
 
 /// The parts of a number as it is written. The exponent behind `E` has a magnitude of at most 10000, which is far outside
 /// the exponents that are read.
+#[derive(Clone, Copy)]
 pub struct Numeral<'a> {
     pub negative: bool,
     pub whole: &'a [u8],
@@ -19,7 +20,7 @@ const CAP: u32 = 10000;
 
 /// The parts of a text that is a number.
 pub fn scan(text: &[u8]) -> Option<Numeral<'_>>
-    ensures { MatchOption result (numeral_in text.now ≡ None) (λ kept. (n : Parts) × (numeral_in text.now ≡ Some n) × IsKept n kept.negative kept.whole.now kept.fraction.now kept.exponent) }
+    ensures { MatchOption result (numeral_in text.now ≡ None) (λ kept. IsFound text.now kept.negative kept.whole.now kept.fraction.now kept.exponent) }
 {
     let (negative, unsigned) = split_sign(text);
     let (whole, rest) = split_digits(unsigned);

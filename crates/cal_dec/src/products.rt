@@ -64,3 +64,42 @@ fn mantissa_of_inverse(b: Dec) -> i128
 {
     10i128.pow(36) / b.mantissa as i128
 }
+
+#[cfg(test)]
+mod tests {
+    use super::*;
+    use crate::dec::dec_of as dec;
+    use std::test::Fail;
+
+    #[test]
+    fn products_and_powers_are_cut_towards_zero(rt: HostRuntime) -> Result<(), Fail> {
+        let largest = dec(999999999999999999, 0);
+        assert_eq!(rt; mul(largest, dec(1, 0)), largest);
+        assert_eq!(rt; mul(dec(999999999, 0), dec(1000000001, 0)), largest);
+        assert_eq!(rt;
+            mul(dec(1000000000, 0), dec(1000000000, 0)),
+            dec(100000000000000000, 1)
+        );
+        assert_eq!(rt;
+            mul(dec(999999999999999999, 3), dec(999999999999999999, -5)),
+            dec(999999999999999998, 16)
+        );
+        assert_eq!(rt;
+            mul(dec(-999999999999999999, 0), dec(11, 0)),
+            dec(-109999999999999999, 2)
+        );
+        assert_eq!(rt; mul(dec(-15, -1), dec(15, -1)), dec(-225, -2));
+        assert_eq!(rt; mul(dec(0, 5), dec(3, -7)), dec(0, -2));
+        assert_eq!(rt; power(dec(100000, -2), -1), dec(100000000000000000, -20));
+        assert_eq!(rt; power(dec(-7, 3), 0), dec(1, 0));
+        assert_eq!(rt; power(dec(2, 0), 10), dec(1024, 0));
+        assert_eq!(rt; power(dec(10, 0), 17), dec(100000000000000000, 0));
+        assert_eq!(rt; power(dec(10, 0), 18), dec(100000000000000000, 1));
+        assert_eq!(rt; power(dec(10, 0), 20), dec(100000000000000000, 3));
+        assert_eq!(rt; power(dec(-3, -1), 3), dec(-27, -3));
+        assert_eq!(rt; power(largest, 3), dec(999999999999999997, 36));
+        assert_eq!(rt; power(dec(3, 0), -1), dec(333333333333333333, -18));
+        assert_eq!(rt; power(dec(-4, 1), -2), dec(625000000000000000, -21));
+        Ok(())
+    }
+}

@@ -1,7 +1,8 @@
-ghost use Rattle.std.specs.Prelude.{◌≡◌, ◌<◌, ◌≤◌, ◌+◌, ◌^◌, ◌++◌, ◌↔◌, ◌-ℤ◌, List, ℕ, length, pos, unsigned_abs, IfOk, IfSome, IsNone, ¬, ◌⊎◌};
+ghost use Rattle.std.specs.Prelude.{◌≡◌, ◌<◌, ◌≤◌, ◌+◌, ◌^◌, ◌++◌, ◌↔◌, List, ℕ, length, unsigned_abs, IfOk, IfSome, IsNone, ◌⊎◌};
 ghost use Rattle.std.specs.Str.Parse.{AllDigits, digits_value};
 ghost use Rattle.cal_dec.specs.Decimals.{decimal_of};
 ghost use Rattle.cal_dec.specs.Numerals.{Numeral as Parts, Spells, IsNumber, decimal_from, value_of};
+ghost use Rattle.cal_dec.specs.Scanning.{decimal_kept};
 ghost use Rattle.cal_dec.specs.Trimming.{IsFirst};
 
 use crate::dec::Dec;
@@ -21,6 +22,15 @@ pub enum DecFault {
 /// The longest text that is read, in bytes.
 const LONGEST: usize = 64;
 
+/// The greatest magnitude of an exponent.
+const WIDEST: u32 = 200;
+
+/// Before the first digit.
+const NO_DIGITS: FirstDigits = FirstDigits {
+    magnitude: 0,
+    dropped: 0,
+};
+
 /// The least number of 18 digits.
 const FULL: u64 = 100_000_000_000_000_000;
 
@@ -31,41 +41,48 @@ pub fn read_dec(text: &[u8]) -> Result<Dec, DecFault>
     ensures too_long { (n : Parts) → Spells n text.now → ((result ≡ Err DecFault.TooLong) ↔ ((64 < length text.now) ⊎ (200 < unsigned_abs (value_of n).exponent))) }
     ensures value { (n : Parts) → Spells n text.now → IfOk result (λ d. decimal_of d ≡ value_of n) }
 {
-    let Some(numeral) = scan(text) else {
-        return Err(DecFault::NotANumber);
-    };
-    if text.len() > LONGEST {
-        return Err(DecFault::TooLong);
+    match scan(text) {
+        None => Err(DecFault::NotANumber),
+        Some(_) if text.len() > LONGEST => Err(DecFault::TooLong),
+        Some(numeral) => value(&numeral).ok_or(DecFault::TooLong),
     }
-    value(numeral).ok_or(DecFault::TooLong)
 }
 
 /// The number of these parts, unless its exponent is outside -200 to 200.
-fn value(numeral: Numeral<'_>) -> Option<Dec>
-    requires whole { AllDigits 10 numeral.whole.now }
-    requires fraction { AllDigits 10 numeral.fraction.now }
-    requires few { length numeral.whole.now + length numeral.fraction.now ≤ 64 }
-    requires exponent { unsigned_abs numeral.exponent ≤ 10000 }
-    ensures value { IfSome result (λ d. decimal_of d ≡ decimal_from numeral.negative (digits_value 10 (numeral.whole.now ++ numeral.fraction.now)) (numeral.exponent -ℤ pos (length numeral.fraction.now))) }
-    ensures too_long { IsNone result ↔ (200 < unsigned_abs (decimal_from numeral.negative (digits_value 10 (numeral.whole.now ++ numeral.fraction.now)) (numeral.exponent -ℤ pos (length numeral.fraction.now))).exponent) }
+fn value(numeral: &Numeral<'_>) -> Option<Dec>
+    requires whole { AllDigits 10 numeral.now.whole.now }
+    requires fraction { AllDigits 10 numeral.now.fraction.now }
+    requires few { length numeral.now.whole.now + length numeral.now.fraction.now ≤ 64 }
+    requires exponent { unsigned_abs numeral.now.exponent ≤ 10000 }
+    ensures value { IfSome result (λ d. decimal_of d ≡ decimal_kept numeral.now.negative numeral.now.whole.now numeral.now.fraction.now numeral.now.exponent) }
+    ensures too_long { IsNone result ↔ (200 < unsigned_abs (decimal_kept numeral.now.negative numeral.now.whole.now numeral.now.fraction.now numeral.now.exponent).exponent) }
 {
-    let none = FirstDigits {
-        magnitude: 0,
-        dropped: 0,
-    };
-    let FirstDigits { magnitude, dropped } = first_digits(first_digits(none, numeral.whole), numeral.fraction);
-    if magnitude == 0 {
+    let digits = first_digits(first_digits(NO_DIGITS, numeral.whole), numeral.fraction);
+    let exponent = numeral.exponent - numeral.fraction.len() as i32;
+    within_limits(numeral.negative, digits, exponent)
+}
+
+/// The number of these first digits, unless its exponent is outside -200 to 200. The exponent that is given is that of the last
+/// digit, dropped or not.
+fn within_limits(negative: bool, digits: FirstDigits, exponent: i32) -> Option<Dec>
+    requires magnitude { digits.magnitude < 10 ^ 18 }
+    requires dropped { digits.dropped ≤ 64 }
+    requires exponent { unsigned_abs exponent ≤ 10064 }
+    ensures value { (number : ℕ) → number < 10 ^ 64 → IsFirst number digits.magnitude digits.dropped → IfSome result (λ d. decimal_of d ≡ decimal_from negative number exponent) }
+    ensures too_long { (number : ℕ) → number < 10 ^ 64 → IsFirst number digits.magnitude digits.dropped → (IsNone result ↔ (200 < unsigned_abs (decimal_from negative number exponent).exponent)) }
+{
+    if digits.magnitude == 0 {
         return Some(Dec {
             mantissa: 0,
             exponent: 0,
         });
     }
-    let exponent = numeral.exponent - numeral.fraction.len() as i32 + dropped as i32;
-    if exponent < -200 || exponent > 200 {
+    let exponent = exponent + digits.dropped as i32;
+    if exponent.unsigned_abs() > WIDEST {
         return None;
     }
     Some(Dec {
-        mantissa: signed(numeral.negative, magnitude),
+        mantissa: signed(negative, digits.magnitude),
         exponent: exponent as i16,
     })
 }
@@ -80,7 +97,10 @@ fn first_digits(before: FirstDigits, digits: &[u8]) -> FirstDigits
     ensures magnitude { result.magnitude < 10 ^ 18 }
     ensures dropped { result.dropped ≤ before.dropped + length digits.now }
 {
-    let FirstDigits { mut magnitude, mut dropped } = before;
+    let FirstDigits {
+        mut magnitude,
+        mut dropped,
+    } = before;
     'digits: for &b in digits {
         if magnitude < FULL {
             magnitude = magnitude * 10 + (b - b'0') as u64;
@@ -89,4 +109,125 @@ fn first_digits(before: FirstDigits, digits: &[u8]) -> FirstDigits
         }
     }
     FirstDigits { magnitude, dropped }
+}
+
+#[cfg(test)]
+mod tests {
+    use super::*;
+    use std::test::Fail;
+
+    const NUMBERS: [(&str, i64, i16); 44] = [
+        ("298.15", 29815, -2),
+        ("1.47721E-06", 147721, -11),
+        ("-.5", -5, -1),
+        ("0", 0, 0),
+        ("7", 7, 0),
+        ("+7", 7, 0),
+        ("-7", -7, 0),
+        ("007", 7, 0),
+        ("7.", 7, 0),
+        (".7", 7, -1),
+        ("+.25", 25, -2),
+        ("-12.50", -1250, -2),
+        ("0.0", 0, 0),
+        ("-0", 0, 0),
+        (".0", 0, 0),
+        ("0.", 0, 0),
+        ("0E5", 0, 0),
+        ("0E99999", 0, 0),
+        ("-0.00E-12", 0, 0),
+        ("0E-201", 0, 0),
+        ("1E0", 1, 0),
+        ("1E5", 1, 5),
+        ("1E+5", 1, 5),
+        ("1E-5", 1, -5),
+        ("1.5E3", 15, 2),
+        ("1E0005", 1, 5),
+        ("1E200", 1, 200),
+        ("1E-200", 1, -200),
+        ("-1E200", -1, 200),
+        ("12E200", 12, 200),
+        ("1.5E201", 15, 200),
+        ("1.5E-199", 15, -200),
+        ("00001.50", 150, -2),
+        ("123456789012345678", 123456789012345678, 0),
+        ("-999999999999999999", -999999999999999999, 0),
+        ("1000000000000000000", 100000000000000000, 1),
+        ("1234567890123456789", 123456789012345678, 1),
+        ("-9999999999999999999", -999999999999999999, 1),
+        ("0.1234567890123456789", 123456789012345678, -18),
+        ("12345678901234567.89", 123456789012345678, -1),
+        ("1234567890123456789E199", 123456789012345678, 200),
+        ("1234567890123456789E-201", 123456789012345678, -200),
+        (
+            "1000000000000000000000000000000000000000000000000000000000000000",
+            100000000000000000,
+            46,
+        ),
+        (
+            "0.00000000000000000000000000000000000000000000000000000000000001",
+            1,
+            -62,
+        ),
+    ];
+
+    const NO_NUMBERS: [&str; 23] = [
+        "",
+        "+",
+        "-",
+        ".",
+        "+.",
+        "E5",
+        ".E5",
+        "1E",
+        "1E+",
+        "1E-",
+        "1e5",
+        "1E5.0",
+        "1.2.3",
+        "1..2",
+        "1 ",
+        " 1",
+        "--1",
+        "+-1",
+        "1E++5",
+        "1E5E5",
+        "1,5",
+        "1111111111111111111111111111111111111111111111111111111111111111x",
+        "1111111111111111111111111111111111111111111111111111111111111111E",
+    ];
+
+    const TOO_LONG: [&str; 12] = [
+        "1E300",
+        "1E201",
+        "1E-201",
+        "-1E201",
+        "1E99999999999999999999",
+        "1E-99999999999999999999",
+        "1.5E-200",
+        "1.5E202",
+        "1234567890123456789E200",
+        "1234567890123456789E-202",
+        "10000000000000000000000000000000000000000000000000000000000000000",
+        "00000000000000000000000000000000000000000000000000000000000000000",
+    ];
+
+    #[test]
+    fn texts_are_read_by_the_grammar(rt: HostRuntime) -> Result<(), Fail> {
+        for (text, mantissa, exponent) in NUMBERS {
+            let number = read_dec(text.as_bytes()).map(|d| (d.mantissa, d.exponent));
+            assert_eq!(rt; number, Ok((mantissa, exponent)), "{text}");
+        }
+        for text in NO_NUMBERS {
+            assert_eq!(rt;
+                read_dec(text.as_bytes()),
+                Err(DecFault::NotANumber),
+                "{text}"
+            );
+        }
+        for text in TOO_LONG {
+            assert_eq!(rt; read_dec(text.as_bytes()), Err(DecFault::TooLong), "{text}");
+        }
+        Ok(())
+    }
 }

@@ -129,3 +129,53 @@ fn below_multiple(t: u32, mantissa: u64, places: u32) -> bool
 {
     places >= 10 || (t as u128) < mantissa as u128 * power_of_ten(places)
 }
+
+#[cfg(test)]
+mod tests {
+    use super::*;
+    use crate::dec::dec_of as dec;
+    use std::test::Fail;
+
+    #[test]
+    fn units_are_floors_at_every_exponent(rt: HostRuntime) -> Result<(), Fail> {
+        assert_eq!(rt; to_nano(dec(-147721, -11)), Ok(-1478));
+        assert_eq!(rt; to_nano(dec(29815, -2)), Ok(298150000000));
+        assert_eq!(rt; to_nano(dec(5, -10)), Ok(0));
+        assert_eq!(rt; to_nano(dec(-5, -10)), Ok(-1));
+        assert_eq!(rt; to_nano(dec(-1000, -12)), Ok(-1));
+        assert_eq!(rt; to_nano(dec(-1, -9)), Ok(-1));
+        assert_eq!(rt; to_nano(dec(-999999999999999999, -27)), Ok(-1));
+        assert_eq!(rt; to_nano(dec(1, -32768)), Ok(0));
+        assert_eq!(rt; to_nano(dec(-1, -32768)), Ok(-1));
+        assert_eq!(rt; to_nano(dec(0, 32767)), Ok(0));
+        assert_eq!(rt; to_nano(dec(1, 18)), Ok(1000000000000000000000000000));
+        assert_eq!(rt; to_nano(dec(-1, 18)), Ok(-1000000000000000000000000000));
+        assert_eq!(rt;
+            to_nano(dec(999999999999999999, 0)),
+            Ok(999999999999999999000000000)
+        );
+        assert_eq!(rt; to_nano(dec(100000000000000001, 1)), Err(TooLarge));
+        assert_eq!(rt; to_nano(dec(-100000000000000001, 1)), Err(TooLarge));
+        assert_eq!(rt; to_nano(dec(1, 19)), Err(TooLarge));
+        assert_eq!(rt; to_nano(dec(-1, 32767)), Err(TooLarge));
+        Ok(())
+    }
+
+    #[test]
+    fn hundredths_are_compared_exactly(rt: HostRuntime) -> Result<(), Fail> {
+        assert!(rt; below(29814, dec(29815, -2)));
+        assert!(rt; !below(29815, dec(29815, -2)));
+        assert!(rt; below(9, dec(1, -1)));
+        assert!(rt; !below(10, dec(1, -1)));
+        assert!(rt; below(599999, dec(6, 3)));
+        assert!(rt; !below(600000, dec(6, 3)));
+        assert!(rt; below(4294967295, dec(42949673, 0)));
+        assert!(rt; !below(4294967295, dec(42949672, 0)));
+        assert!(rt; below(4294967295, dec(1, 32767)));
+        assert!(rt; below(0, dec(1, -32768)));
+        assert!(rt; !below(1, dec(1, -32768)));
+        assert!(rt; !below(0, dec(0, 0)));
+        assert!(rt; !below(0, dec(-1, 0)));
+        Ok(())
+    }
+}

@@ -8,6 +8,7 @@ use crate::dec::Dec;
 pub const LIMIT: u128 = 1_000_000_000_000_000_000;
 
 /// The first digits of a number, at most 18, and how many further ones were dropped.
+#[derive(Clone, Copy)]
 pub struct FirstDigits {
     pub magnitude: u64,
     pub dropped: u16,
@@ -25,6 +26,7 @@ pub fn signed(negative: bool, magnitude: u64) -> i64
     }
 }
 
+/// The first digits of a number, and how many are dropped.
 pub fn leading(number: u128) -> FirstDigits
     ensures dropped { result.dropped ≡ digits_over number }
     ensures magnitude { result.magnitude ≡ number / 10 ^ digits_over number }

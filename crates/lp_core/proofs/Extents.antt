@@ -1,7 +1,6 @@
 -- The greatest sum and the dearest cost of a front of the columns.
-use Rattle.std.proofs.Common.{◌≡◌, ℕ, zero, suc, ◌+◌, ◌*◌, ◌^◌, ◌<◌, ◌≤◌, List, [], ◌∷◌, length, get_or, take, arith, ap, sym, ◌∙◌, max, refl}
-use Rattle.std.specs.Prelude.{ℤ, pos, ◌≤ℤ◌, unsigned_abs}
-use Rattle.std.proofs.lemmas.Int.{ints}
+use Rattle.std.proofs.Common.{◌≡◌, ℕ, zero, suc, ◌<◌, ◌≤◌, List, [], ◌∷◌, length, get_or, take, arith, max, refl}
+use Rattle.std.specs.Prelude.{unsigned_abs}
 use Rattle.lp_core.specs.Columns.{sum_at, widest, dearest}
 use Rattle.lp_core.specs.declared.column.Column.{Column}
 

@@ -6,3 +6,9 @@ pub mod Held
 pub mod Placed
 pub mod UnitRows
 pub mod Extents
+pub mod Summing
+pub mod Pricing
+pub mod RatioTest
+pub mod Moving
+pub mod Improvement
+pub mod Ending

@@ -1,5 +1,5 @@
 -- Lists that grow by one number, products of rows that fit, exact quotients.
-use Rattle.std.proofs.Common.{◌≡◌, ℕ, zero, suc, ◌+◌, ◌*◌, ◌<◌, ◌≤◌, List, [], ◌∷◌, ◌++◌, length, refl, arith, ap, sym, subst, inl, inr}
+use Rattle.std.proofs.Common.{◌≡◌, ℕ, zero, suc, ◌+◌, ◌*◌, ◌<◌, ◌≤◌, List, [], ◌∷◌, ◌++◌, length, get_or, refl, arith, ap, sym, subst, inl, inr}
 use Rattle.std.specs.Prelude.{ℤ, pos, negsuc, ◌-ℤ◌, ◌*ℤ◌, ◌≤ℤ◌, unsigned_abs, FitsSigned}
 use Rattle.std.specs.Int.{w128, ◌∣◌}
 use Rattle.std.specs.Int.RustNames.{int_div, int_rem}
@@ -53,3 +53,20 @@ divides_more xs g h s i e p q all c lt =
       | inl same ↦ subst (λ (b : ℕ). h ∣ unsigned_abs (at xs b)) (sym same) (subst (λ (v : ℕ). h ∣ v) e q)
       | inr other ↦ dvd_trans h p (all c (omega arith))
     ]
+
+-- what holds of each element of a list, and of one more
+front_of : {X : Type 0} (xs : List X) (y d : X) (k : ℕ) → k < length xs → get_or (xs ++ y ∷ []) k d ≡ get_or xs k d
+front_of [] y d k lt = absurd (omega arith)
+front_of (x ∷ xs) y d zero lt = refl
+front_of (x ∷ xs) y d (suc k) lt = front_of xs y d k (omega arith)
+
+end_of : {X : Type 0} (xs : List X) (y d : X) → get_or (xs ++ y ∷ []) (length xs) d ≡ y
+end_of [] y d = refl
+end_of (x ∷ xs) y d = end_of xs y d
+
+pub each_of : {X : Type 0} (P : ℕ → X → Type 0) (xs zs : List X) (y : X) (i : ℕ) → length xs ≡ i → zs ≡ xs ++ y ∷ [] → ((k : ℕ) (d : X) → k < i → P k (get_or xs k d)) → P i y → (k : ℕ) (d : X) → k < i + 1 → P k (get_or zs k d)
+each_of P xs zs y i e is h here k d lt =
+    rw is (elim (cases_eq k i) [
+      | inl same ↦ subst (λ (b : ℕ). P b (get_or (xs ++ y ∷ []) b d)) (sym same) (subst (λ (b : ℕ). P i (get_or (xs ++ y ∷ []) b d)) e (subst (P i) (sym (end_of xs y d)) here))
+      | inr other ↦ subst (P k) (sym (front_of xs y d k (omega arith))) (h k d (omega arith))
+    ])

@@ -1,5 +1,5 @@
 -- What stands at each place after an exchange, and that its numbers fit.
-use Rattle.std.proofs.Common.{◌≡◌, ℕ, zero, suc, ◌+◌, ◌*◌, ◌^◌, ◌<◌, ◌≤◌, ◌≢◌, List, [], ◌∷◌, ◌++◌, length, get_or, refl, arith, ap, sym, ◌∙◌, subst, inl, inr}
+use Rattle.std.proofs.Common.{◌≡◌, ℕ, zero, suc, ◌*◌, ◌^◌, ◌<◌, ◌≤◌, ◌≢◌, List, [], ◌∷◌, length, get_or, refl, arith, ap, sym, ◌∙◌, subst, inl, inr}
 use Rattle.std.specs.Prelude.{ℤ, pos, ◌-ℤ◌, ◌*ℤ◌, unsigned_abs, FitsSigned}
 use Rattle.std.specs.Int.{w128}
 use Rattle.std.proofs.lemmas.Int.{ints, unsigned_abs-mul, fits_signed_from_abs}
@@ -130,22 +130,6 @@ pub read_back : (rows : List Row) (j : ℕ) (d : Row) → j < length rows → (n
 read_back [] j d lt = absurd (omega arith)
 read_back (x ∷ xs) zero d lt = (refl, refl)
 read_back (x ∷ xs) (suc j) d lt = read_back xs j d (omega arith)
-
-front_row : (xs : List Row) (y d : Row) (k : ℕ) → k < length xs → get_or (xs ++ y ∷ []) k d ≡ get_or xs k d
-front_row [] y d k lt = absurd (omega arith)
-front_row (x ∷ xs) y d zero lt = refl
-front_row (x ∷ xs) y d (suc k) lt = front_row xs y d k (omega arith)
-
-end_row : (xs : List Row) (y d : Row) → get_or (xs ++ y ∷ []) (length xs) d ≡ y
-end_row [] y d = refl
-end_row (x ∷ xs) y d = end_row xs y d
-
-pub each_row : (P : ℕ → Row → Type 0) (xs zs : List Row) (y : Row) (i : ℕ) → length xs ≡ i → zs ≡ xs ++ y ∷ [] → ((k : ℕ) (d : Row) → k < i → P k (get_or xs k d)) → P i y → (k : ℕ) (d : Row) → k < i + 1 → P k (get_or zs k d)
-each_row P xs zs y i e is h here k d lt =
-    rw is (elim (cases_eq k i) [
-      | inl same ↦ subst (λ (b : ℕ). P b (get_or (xs ++ y ∷ []) b d)) (sym same) (subst (λ (b : ℕ). P i (get_or (xs ++ y ∷ []) b d)) e (subst (P i) (sym (end_row xs y d)) here))
-      | inr other ↦ subst (P k) (sym (front_row xs y d k (omega arith))) (h k d (omega arith))
-    ])
 
 pub IsHeld-placed : (b w : ℕ) (columns columns' : ℕ → ℕ → ℤ) (rows : List Row) (i : ℕ) (column : List ℤ) (p : ℤ) (mine : List ℤ) (next : List Row) (d : Row) → CanPlace b w columns rows i p mine column →
     IsPut (suc b) i columns column columns' → length next ≡ suc b → ((k : ℕ) (d : Row) → k < suc b → IsPlaced i k (length column) p mine column rows (get_or next k d)) → IsHeld (suc b) w columns' next

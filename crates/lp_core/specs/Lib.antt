@@ -3,3 +3,8 @@ pub mod Columns
 pub mod Ratios
 pub mod Held
 pub mod Steps
+pub mod Potentials
+pub mod Pricing
+pub mod Leaving
+pub mod Stages
+pub mod Running

@@ -5,15 +5,8 @@ ghost use Rattle.lp_core.specs.Rows.{at, FitsProduct, FitsMixed};
 ghost use Rattle.lp_core.specs.Held.{CanEnter, IsPut, IsHeld, CanExchange, IsExchanged};
 ghost use Rattle.lp_core.specs.Steps.{IsNext, Keeps, CanPlace, IsPlaced};
 
-use crate::row::{Row, divided, mixed, product, quotient, shared};
+use crate::row::{Row, divided, mixed, product, quotient, shared, times};
 use std::alloc::{AllocError, Global};
-
-fn times(a: i128, b: i128) -> i128
-    requires { FitsSigned w128 (a *ℤ b) }
-    ensures { result ≡ a *ℤ b }
-{
-    a * b
-}
 
 /// The greatest number that divides all numbers of a row, of which one is not 0.
 fn divisor_of(row: &[i128]) -> i128

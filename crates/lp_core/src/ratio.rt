@@ -35,7 +35,7 @@ pub fn compare(a: u128, b: u128, c: u128, d: u128) -> Ordering
 
 /// The quotient by a number above 0, rounded down.
 #[tactic(auto, using(cal_math::specs::Whole::floors))]
-fn floor_of(a: i128, d: i128) -> i128
+pub fn floor_of(a: i128, d: i128) -> i128
     requires { pos 1 ≤ℤ d }
     ensures { result ≡ int_div_euclid a d }
 {
@@ -43,7 +43,7 @@ fn floor_of(a: i128, d: i128) -> i128
 }
 
 /// What is left of it.
-fn rest_of(a: i128, d: i128) -> u128
+pub fn rest_of(a: i128, d: i128) -> u128
     requires { pos 1 ≤ℤ d }
     ensures { pos result ≡ a -ℤ d *ℤ int_div_euclid a d }
 {

@@ -100,3 +100,11 @@ pub fn divided(alloc: Global, row: &[i128], d: i128) -> Result<Vec<i128>, AllocE
     }
     Ok(numbers)
 }
+
+/// The product of two numbers.
+pub fn times(a: i128, b: i128) -> i128
+    requires { FitsSigned w128 (a *ℤ b) }
+    ensures { result ≡ a *ℤ b }
+{
+    a * b
+}

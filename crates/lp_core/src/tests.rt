@@ -2,7 +2,8 @@ ghost use Rattle.std.specs.Prelude.{◌<◌, ◌≤◌, ◌^◌, length, IfOk, I
 ghost use Rattle.lp_core.specs.Held.{AreRows};
 
 use crate::basis::exchange;
-use crate::column::sum_of;
+use crate::column::{Column, sum_of};
+use crate::fit::fits;
 use crate::ratio::{compare, compare_signed};
 use crate::row::{Row, product};
 use crate::unit::units;
@@ -229,4 +230,116 @@ fn ratios_are_compared_without_their_products(rt: HostRuntime) {
         compare(u128::MAX, u128::MAX - 1, u128::MAX - 1, u128::MAX),
         Ordering::Greater
     );
+}
+
+/// A column by its cost and amounts, a target, and whether they fit.
+#[derive(Clone, Copy)]
+struct Fitting<'a> {
+    cost: i128,
+    amounts: &'a [i128],
+    target: &'a [i128],
+    fits: bool,
+}
+
+#[test]
+fn plans_fit_up_to_their_limits(rt: HostRuntime) -> Result<(), Fail> {
+    let alloc = rt.alloc();
+    let cases = [
+        Fitting {
+            cost: 0,
+            amounts: &[1],
+            target: &[1 << 50],
+            fits: true,
+        },
+        Fitting {
+            cost: 0,
+            amounts: &[1],
+            target: &[(1 << 50) + 1],
+            fits: false,
+        },
+        Fitting {
+            cost: 0,
+            amounts: &[1, 2],
+            target: &[0, 0],
+            fits: false,
+        },
+        Fitting {
+            cost: 0,
+            amounts: &[1, 2],
+            target: &[2, -1],
+            fits: false,
+        },
+        Fitting {
+            cost: 0,
+            amounts: &[1, 0, 0, 0, 0, 0, 0, 0, 0],
+            target: &[1, 1, 1, 1, 1, 1, 1, 1, 1],
+            fits: false,
+        },
+        Fitting {
+            cost: 3,
+            amounts: &[215, 0, 0, 0, 0, 0, 0, 0],
+            target: &[0, 0, 0, 0, 0, 0, 0, 1],
+            fits: true,
+        },
+        Fitting {
+            cost: 3,
+            amounts: &[215, 0, 0, 0, 0, 0, 0, 1],
+            target: &[0, 0, 0, 0, 0, 0, 0, 1],
+            fits: false,
+        },
+        Fitting {
+            cost: -(1 << 55),
+            amounts: &[1],
+            target: &[7],
+            fits: true,
+        },
+        Fitting {
+            cost: (1 << 55) + 1,
+            amounts: &[1],
+            target: &[7],
+            fits: false,
+        },
+        Fitting {
+            cost: 1 << 54,
+            amounts: &[1 << 40],
+            target: &[7],
+            fits: true,
+        },
+        Fitting {
+            cost: (1 << 54) + 1,
+            amounts: &[1 << 40],
+            target: &[7],
+            fits: false,
+        },
+        Fitting {
+            cost: 0,
+            amounts: &[0, 0],
+            target: &[1, 1],
+            fits: false,
+        },
+        Fitting {
+            cost: 0,
+            amounts: &[2, -1],
+            target: &[1, 1],
+            fits: false,
+        },
+        Fitting {
+            cost: 0,
+            amounts: &[2],
+            target: &[1, 1],
+            fits: false,
+        },
+    ];
+    assert!(rt; fits(&[], &[1, 0]));
+    assert!(rt; !fits(&[], &[]));
+    for case in cases {
+        let amounts = Vec::from_slice(alloc, case.amounts)?;
+        let mut columns = Vec::new(alloc);
+        columns.push(Column {
+            cost: case.cost,
+            amounts,
+        })?;
+        assert_eq!(rt; fits(&columns, case.target), case.fits);
+    }
+    Ok(())
 }

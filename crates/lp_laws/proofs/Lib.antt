@@ -13,3 +13,9 @@ pub mod Units
 pub mod Unique
 pub mod Reduced
 pub mod Own
+pub mod Lexicographic
+pub mod Falling
+pub mod Measure
+pub mod Weights
+pub mod Summands
+pub mod Steps

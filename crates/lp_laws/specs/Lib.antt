@@ -3,3 +3,4 @@ pub mod Orders
 pub mod Bases
 pub mod Bounds
 pub mod Laws
+pub mod Descents

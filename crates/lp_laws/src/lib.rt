@@ -3,9 +3,13 @@
 
 mod basis;
 mod bound;
+mod descent;
 
 pub use basis::{exchange_keeps_basis, rows_are_unique};
 pub use bound::{
     denominators_are_bounded, own_products_are_bounded, parts_are_bounded, potentials_are_bounded,
     row_numbers_are_bounded,
+};
+pub use descent::{
+    costs_fall, lists_stay_above, proof_excludes_weights, some_place_is_left, weights_give_target,
 };

@@ -1,5 +1,5 @@
 -- What a cutter ends with, if these cells follow.
-use Rattle.std.specs.Prelude.{ℕ, List, [], ◌∷◌, ◌++◌, map, Option, Some, None}
+use Rattle.std.specs.Prelude.{ℕ, List, [], ◌∷◌, ◌++◌, map, Option, None}
 use Rattle.tdb_lex.specs.declared.command.Command.{Command}
 use Rattle.tdb_lex.specs.declared.cutter.Cutter.{Cutter}
 use Rattle.tdb_lex.specs.Commands.{Cell, or_else, first_solid_line, made, split_at_marks, finished, unfinished}

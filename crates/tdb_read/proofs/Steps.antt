@@ -1,12 +1,12 @@
 -- The fold goes on by a command.
-use Rattle.std.proofs.Common.{◌≡◌, ℕ, ◌+◌, ◌≤◌, ◌<◌, List, [], ◌∷◌, length, get_or, drop, Bool, true, false, codes, Option, Some, None, Result, refl, sym, ap, ◌∙◌}
+use Rattle.std.proofs.Common.{◌≡◌, ℕ, ◌+◌, ◌≤◌, ◌<◌, List, length, get_or, drop, true, false, codes, Option, Some, None, Result, refl, sym, ap, ◌∙◌}
 use Rattle.std.proofs.lemmas.List.{at_drop_more, at_drop_all}
 use Rattle.tdb_lex.specs.declared.command.Command.{Command}
 use Rattle.tdb_read.specs.declared.fault.DbFault.{DbFault}
 use Rattle.tdb_read.specs.declared.fault.DbFault.TheVariants as faults
 use Rattle.tdb_read.specs.Database.{Database}
 use Rattle.tdb_scan.specs.Words.{same_word}
-use Rattle.tdb_read.specs.Folding.{step, by_step, first_fault, folded, IsFaultAt, IsFault, Obeys, word_step, constituent_step, parameter_step}
+use Rattle.tdb_read.specs.Folding.{step, first_fault, folded, IsFaultAt, IsFault, Obeys, word_step, constituent_step, parameter_step}
 
 -- what is still to read, and what all of it gives
 pub record Behind (d : Database) (cs : List Command) (unfinished : Option ℕ) (fault : Option ℕ) (whole : Database) : Type 0 where

@@ -1,5 +1,5 @@
 -- What a database holds: entries by name or key, in the order in which each was entered first.
-use Rattle.std.specs.Prelude.{◌≡◌, ℕ, ◌&&◌, List, [], ◌∷◌, Bool, nat_eq, Option}
+use Rattle.std.specs.Prelude.{ℕ, ◌&&◌, List, [], Bool, nat_eq, Option}
 use Rattle.std.specs.Cmp.Lexicographic.{pointwise}
 use Rattle.std.specs.Map.{lookup}
 use Rattle.std.specs.Option.{option_map}

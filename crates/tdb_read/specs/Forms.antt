@@ -1,5 +1,5 @@
 -- What a command says, from the tokens behind its word; none where they have not the form.
-use Rattle.std.specs.Prelude.{ℕ, ℤ, zero, suc, List, [], ◌∷◌, codes, Bool, true, false, cond, ◌&&◌, ◌==◌, Option, Some, None}
+use Rattle.std.specs.Prelude.{ℕ, ℤ, suc, List, [], ◌∷◌, codes, cond, ◌&&◌, ◌==◌, Option, Some, None}
 use Rattle.std.specs.List.{slice_split}
 use Rattle.std.specs.Option.{option_map, option_and_then}
 use Rattle.tdb_scan.specs.Words.{same_word, is_name, before, behind}

@@ -1,8 +1,7 @@
 -- What is true of every database: each entry is one that a command can give.
-use Rattle.std.specs.Prelude.{◌≡◌, ℕ, ℤ, ◌≤◌, ◌<◌, ◌^◌, List, [], ◌∷◌, true, unsigned_abs}
+use Rattle.std.specs.Prelude.{◌≡◌, ℕ, ◌≤◌, ◌<◌, ◌^◌, List, [], ◌∷◌, true, unsigned_abs}
 use Rattle.std.specs.List.{AllByRecursion}
 use Rattle.tdb_scan.specs.Words.{is_name}
-use Rattle.tdb_read.specs.declared.key.Key.{Key}
 use Rattle.tdb_read.specs.declared.phase.PhaseText.{PhaseText}
 use Rattle.tdb_read.specs.declared.parameter.ParamText.{ParamText}
 use Rattle.tdb_read.specs.Database.{Database}

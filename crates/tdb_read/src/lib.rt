@@ -9,6 +9,8 @@ mod key;
 mod parameter;
 mod phase;
 mod reading;
+#[cfg(test)]
+mod tests;
 
 pub use db::Db;
 pub use fault::DbFault;

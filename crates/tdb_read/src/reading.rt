@@ -1,4 +1,4 @@
-ghost use Rattle.std.specs.Prelude.{◌≡◌, ◌≤◌, ◌^◌, length, map};
+ghost use Rattle.std.specs.Prelude.{◌≤◌, ◌^◌, length, map};
 ghost use Rattle.tdb_read.specs.Database.{empty};
 ghost use Rattle.tdb_read.specs.Folding.{Obeys, ReadsAs, element_step, phase_step, constituent_step, parameter_step, word_step, tokens_step, step, first_fault, folded, fault_of, database_of};
 

@@ -1,5 +1,5 @@
 -- Whole numbers in decimal digits.
-use Rattle.std.specs.Prelude.{ℕ, ◌+◌, ◌-◌, ◌*◌, ◌^◌, List, [], ◌∷◌, length, take, drop, Bool, true, false, cond, ◌&&◌, nat_lt, Option, Some, None}
+use Rattle.std.specs.Prelude.{ℕ, ◌+◌, ◌-◌, ◌*◌, ◌^◌, List, [], ◌∷◌, length, take, drop, Bool, false, cond, ◌&&◌, nat_lt, Option, Some, None}
 use Rattle.std.specs.List.{list_all, prefix_len}
 use Rattle.tdb_scan.specs.Bytes.{is_digit}
 

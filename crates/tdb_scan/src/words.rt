@@ -1,8 +1,8 @@
-ghost use Rattle.std.specs.Prelude.{◌≡◌, ◌==◌, IfOk, map, filter};
-ghost use Rattle.std.specs.List.{list_all, slice_split};
+ghost use Rattle.std.specs.Prelude.{◌≡◌, IfOk, map};
+ghost use Rattle.std.specs.List.{list_all};
 ghost use Rattle.std.specs.Option.{option_map};
 ghost use Rattle.tdb_scan.specs.Bytes.{is_name_byte};
-ghost use Rattle.tdb_scan.specs.Words.{same_word, tokens as tokens_of, is_full, is_name, before as text_before, behind as text_behind};
+ghost use Rattle.tdb_scan.specs.Words.{same_word, tokens as tokens_of, is_name, before as text_before, behind as text_behind};
 
 use crate::byte::{is_letter_byte, may_stand_in_name};
 use std::alloc::{AllocError, Global};

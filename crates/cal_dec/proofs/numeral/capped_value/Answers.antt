@@ -1,12 +1,8 @@
-use Rattle.std.proofs.Common.{◌≡◌, ◌-◌, ◌≤◌, ℕ, get_or, arith}
-use Rattle.std.specs.Char.{digit_value}
+use Rattle.std.proofs.Common.{get_or, arith}
 use Rattle.std.proofs.lemmas.Int.Digits.{digits_value_more}
 use Rattle.std.proofs.lemmas.Str.Parse.{digit_at}
-use Rattle.std.proofs.lemmas.Bool.Decides.{nat_tests}
+use Rattle.cal_dec.specs.Digits.{digit_value-is}
 use Rattle.cal_dec.proofs.numeral.capped_value.Goals as goal
-
-digit_value-is : (b : ℕ) → 48 ≤ b → b ≤ 57 → digit_value b ≡ b - 48
-digit_value-is b low high = grind (arith, nat_tests)
 
 pub overflow_sub-b : goal.overflow_sub-b
 overflow_sub-b c = let range = digit_at c.args.digits.now c.digits.b-index c.requires (omega arith) in omega arith

@@ -25,4 +25,4 @@ returns c =
     let rest = c.split_fraction.ensures.rest ∙ ap after_fraction behind in
     let fits : FitsSigned w32 c.in_ok-exponent.exponent = search rules in
     rw (to_z-of_z w32 c.in_ok-exponent.exponent fits)
-      (kept c.args.text.now c.in_ok-exponent.exponent c.exponent.result _ _ _ (c.exponent.ensures ∙ ap (λ t. capped (power_in t)) rest) c.in_ok-exponent.was (omega (arith, c.if-whole-fraction-eq0.false)) c.split_sign-negative.ensures.negative (c.split_digits.ensures.digits ∙ ap digits_in unsigned) (c.split_fraction.ensures.digits ∙ ap (λ t. digits_behind (fraction_in t)) behind))
+    (kept c.args.text.now c.in_ok-exponent.exponent c.exponent.result _ _ _ (c.exponent.ensures ∙ ap (λ t. capped (power_in t)) rest) c.in_ok-exponent.was (omega (arith, c.if-whole-fraction-eq0.false)) c.split_sign-negative.ensures.negative (c.split_digits.ensures.digits ∙ ap digits_in unsigned) (c.split_fraction.ensures.digits ∙ ap (λ t. digits_behind (fraction_in t)) behind))

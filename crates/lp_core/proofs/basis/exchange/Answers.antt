@@ -2,7 +2,8 @@ use Rattle.std.proofs.Common.{◌≡◌, ℕ, ◌<◌, ◌^◌, suc, arith, rule
 use Rattle.std.specs.Int.{w128}
 use Rattle.std.proofs.lemmas.Int.{to_z-of_z}
 use Rattle.lp_core.proofs.Held.{fits_product}
-use Rattle.lp_core.proofs.Placed.{CanPlace-from, turn_mixed, met_small, each_row, read_back, IsHeld-placed}
+use Rattle.lp_core.proofs.Lists.{each_of}
+use Rattle.lp_core.proofs.Placed.{CanPlace-from, turn_mixed, met_small, read_back, IsHeld-placed}
 use Rattle.lp_core.specs.Rows.{at}
 use Rattle.lp_core.specs.Held.{numbers_at}
 use Rattle.lp_core.specs.Steps.{IsPlaced}
@@ -68,7 +69,7 @@ exchange-preserved c =
     let here = simp (to_z-of_z, c.deref-in-exchange.ensures.value) at c.in_ok-one.ensures in
     record {
       same = search rules;
-      placed = simp to_z-of_z (each_row (λ k r. IsPlaced c.args.i k (length c.args.column.now) c.times-p.result c.in_ok-mine.mine.items c.args.column.now c.args.rows.now r)
+      placed = simp to_z-of_z (each_of (λ k r. IsPlaced c.args.i k (length c.args.column.now) c.times-p.result c.in_ok-mine.mine.items c.args.column.now c.args.rows.now r)
           c.exchange.next.items c.push.new.self.items c.in_ok-one.one c.exchange.j c.exchange.invariant.same c.in_ok-push.ensures.items was here);
     }
 

@@ -1,4 +1,4 @@
-use Rattle.std.proofs.Common.{◌≡◌, ℕ, ◌<◌, ◌≤◌, ◌^◌, take}
+use Rattle.std.proofs.Common.{◌≡◌, ◌≤◌, ◌^◌, take}
 use Rattle.std.specs.Prelude.{All}
 use Rattle.lp_core.specs.Columns.{IsColumn, widest, dearest}
 use Rattle.lp_core.proofs.fit.extent_of.Given as goal

@@ -1,8 +1,8 @@
-use Rattle.std.proofs.Common.{◌≡◌, ℕ, zero, suc, ◌<◌, ◌≤◌, ◌^◌, List, [], ◌∷◌, length, refl, arith, sym, ◌∙◌}
-use Rattle.std.specs.Prelude.{ℤ, pos, ◌≤ℤ◌, All, unsigned_abs}
+use Rattle.std.proofs.Common.{ℕ, zero, suc, ◌≤◌, ◌^◌, List, [], ◌∷◌, length, refl, arith}
+use Rattle.std.specs.Prelude.{All}
 use Rattle.std.proofs.lemmas.List.Elements.{All-head, All-tail}
 use Rattle.std.proofs.Math.Nat.{pow-suc, one-le-pow, mul-le-mul_right}
-use Rattle.lp_core.specs.Columns.{IsColumn, IsExtent, IsTarget, HasRoom, Fits, widest, dearest}
+use Rattle.lp_core.specs.Columns.{IsColumn, widest, dearest}
 use Rattle.lp_core.specs.declared.column.Column.{Column}
 use Rattle.lp_core.proofs.Extents.{one-le_widest}
 use Rattle.lp_core.proofs.fit.fits.Goals as goal

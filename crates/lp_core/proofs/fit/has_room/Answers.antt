@@ -1,6 +1,5 @@
-use Rattle.std.proofs.Common.{◌≡◌, ℕ, zero, suc, ◌+◌, ◌*◌, ◌<◌, ◌≤◌, ◌^◌, arith, ap, sym, ◌∙◌}
+use Rattle.std.proofs.Common.{ℕ, suc, ◌*◌, ◌≤◌, ◌^◌, arith, ap}
 use Rattle.std.proofs.Math.Nat.{pow-suc, pow-le-pow_right}
-use Rattle.lp_core.specs.Columns.{HasRoom}
 use Rattle.lp_core.proofs.fit.has_room.Goals as goal
 
 pub returns-then-power-clause-no : goal.returns-then-power-clause-no

@@ -1,5 +1,5 @@
-use Rattle.std.proofs.Common.{◌≡◌, ℕ, ◌<◌, ◌≤◌, ◌^◌, true, false}
-use Rattle.std.specs.Prelude.{ℤ, pos, ◌≤ℤ◌}
+use Rattle.std.proofs.Common.{ℕ, ◌<◌, ◌^◌}
+use Rattle.std.specs.Prelude.{pos, ◌≤ℤ◌}
 use Rattle.std.specs.Bool.{OnTrue, OnFalse}
 use Rattle.lp_core.specs.Rows.{at}
 use Rattle.lp_core.proofs.fit.is_target.Given as goal

@@ -1,4 +1,4 @@
-use Rattle.std.proofs.Common.{◌≡◌, ap, arith}
+use Rattle.std.proofs.Common.{ap, arith}
 use Rattle.tdb_lex.specs.Commands.{parts}
 use Rattle.tdb_lex.proofs.Cuts.{whole, few_lines}
 use Rattle.tdb_lex.proofs.cutter.commands.Goals as goal

@@ -1,4 +1,3 @@
-use Rattle.std.proofs.Common.{◌≡◌, refl, sym, ap, ◌∙◌}
 use Rattle.tdb_lex.specs.Commands.{cell}
 use Rattle.tdb_lex.proofs.Cuts.{mark_yes, mark_no, at_mark, at_plain}
 use Rattle.tdb_lex.proofs.cutter.put.Goals as goal

@@ -1,4 +1,4 @@
-use Rattle.std.proofs.Common.{ap, ◌∙◌}
+use Rattle.std.proofs.Common.{◌∙◌}
 use Rattle.tdb_read.specs.Database.{empty}
 use Rattle.tdb_read.specs.Folding.{folded}
 use Rattle.tdb_read.proofs.Steps.{folds_on, folds_bad, folds_end}

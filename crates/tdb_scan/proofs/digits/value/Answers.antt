@@ -1,4 +1,4 @@
-use Rattle.std.proofs.Common.{arith, length, ◌≡◌, ◌<◌, ◌≤◌, ap, subst, ◌^◌, ℕ}
+use Rattle.std.proofs.Common.{arith, length, ◌≡◌, ◌<◌, subst, ◌^◌, ℕ}
 use Rattle.tdb_scan.proofs.Values.{digit_at, value_on, value_start, value_end, bound_on, bound_within}
 use Rattle.tdb_scan.proofs.digits.value.Goals as goal
 

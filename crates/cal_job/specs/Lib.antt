@@ -1,0 +1,4 @@
+pub mod Forms
+pub mod Saying
+pub mod Capped
+pub mod Pairs

@@ -1,0 +1,39 @@
+ghost use Rattle.std.specs.Prelude.{◌≡◌, ◌≢◌, ◌⊎◌, List, ℕ, map, string_bytes};
+ghost use Rattle.cal_base.specs.declared.status.Status.{Status};
+ghost use Rattle.cal_base.specs.Outside.{Rose, append_told, AppendsAllBut};
+ghost use Rattle.cal_top.specs.Replies.{Replied, RepliedPartly};
+
+use crate::answer::answer;
+use crate::reply::Reply;
+use cal_base::{Library, Sink, Status, write_all};
+use std::alloc::Global;
+
+/// A run of the program over the words behind its name: the text of its one reply is appended to what the sink has, and
+/// the status says which it was. `equilibrium` reads a database and prints the equilibrium of one element.
+pub fn run<L: Library, K: Sink>(
+    alloc: Global,
+    words: &[String],
+    files: &mut L,
+    out: &mut K,
+) -> Status
+    ensures replied { result ≢ Status.WriteFault → Replied (L.told files.old) (L.faults files.old) (L.faults files.new) (L.given files.old) (L.given files.new) (K.written out.old) (K.written out.new) (map (λ word. string_bytes word) words.now) result }
+    ensures write { result ≡ Status.WriteFault → Rose (K.faults out.old) (K.faults out.new) }
+    ensures partly { result ≡ Status.WriteFault → RepliedPartly (L.told files.old) (L.faults files.old) (L.faults files.new) (L.given files.old) (L.given files.new) (K.written out.old) (K.written out.new) (map (λ word. string_bytes word) words.now) }
+{
+    let answered = answer(alloc, words, files);
+    match answered {
+        Err(_) => Status::Memory,
+        Ok(reply) => write(reply, out),
+    }
+}
+
+fn write<K: Sink>(reply: Reply, out: &mut K) -> Status
+    requires { reply.status ≢ Status.WriteFault }
+    ensures ok { result ≢ Status.WriteFault → (result ≡ reply.status) × (K.written out.new ≡ append_told (K.written out.old) reply.text.items) }
+    ensures write { result ≡ Status.WriteFault → Rose (K.faults out.old) (K.faults out.new) × ((rest : List ℕ) × AppendsAllBut rest (K.written out.old) (K.written out.new) reply.text.items) }
+{
+    match write_all(out, reply.text.as_slice()) {
+        Ok(()) => reply.status,
+        Err(_) => Status::WriteFault,
+    }
+}
