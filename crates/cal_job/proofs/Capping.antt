@@ -1,5 +1,5 @@
 -- A capped number goes on by a digit.
-use Rattle.std.proofs.Common.{◌≡◌, ℕ, suc, ◌+◌, ◌-◌, ◌*◌, ◌^◌, ◌≤◌, ◌<◌, ◌⊎◌, inl, inr, true, List, length, get_or, drop, min, refl, sym, ap, subst, add-mul, Option, Some, None, ◌∙◌, arith}
+use Rattle.std.proofs.Common.{◌≡◌, ℕ, suc, ◌+◌, ◌-◌, ◌*◌, ◌^◌, ◌≤◌, ◌<◌, ◌⊎◌, inl, inr, List, length, get_or, drop, min, refl, sym, ap, subst, add-mul, Option, Some, None, ◌∙◌, arith}
 use Rattle.std.proofs.Math.Nat.{pow-suc, mul_comm, mul_assoc, le-mul_of_pos_right, pow-le-pow_right}
 use Rattle.std.proofs.lemmas.Nat.{pow-add}
 use Rattle.std.specs.Option.{option_map}

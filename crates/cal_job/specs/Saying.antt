@@ -14,7 +14,7 @@ options = codes "--db" ∷ codes "--t" ∷ codes "--amounts" ∷ codes "--lattic
 abbrev pub is_option : Word → Bool
 is_option word = list_any (same_word word) options
 
--- not empty, and no `-` in front
+-- not empty, and no `-` in front, which is the byte 45
 abbrev pub is_value : Word → Bool
 is_value [] = false
 is_value (b ∷ _) = not (b == 45)
@@ -38,7 +38,7 @@ lattices = 10 ∷ 20 ∷ 25 ∷ 40 ∷ 50 ∷ 100 ∷ 125 ∷ 200 ∷ 250 ∷ 50
 abbrev pub is_lattice : ℕ → Bool
 is_lattice n = list_any (λ lattice. n == lattice) lattices
 
--- the ranges of the numbers of a job
+-- the ranges of the numbers of a job: 1 to 6000 K, 0.001 to 1000 mol, a listed lattice, 0.000001 to 1000000 J/mol, 0 to 2^40 splits
 pub record InRange (job : Job) : Type 0 where
   pub t_low : 100 ≤ job.t
   pub t_high : job.t ≤ 600000
@@ -51,7 +51,8 @@ pub record InRange (job : Job) : Type 0 where
   pub gap_high : job.gap ≤ 1000000000000
   pub budget_high : job.budget ≤ 2 ^ 40
 
--- what the pairs ask for: each option stands exactly once, and its value, read in its form, is the job's
+-- what the pairs ask for: each option stands exactly once, and its value, read in its form, is the job's; a number has at most 2, 9, 0, 6
+-- or 0 decimals
 pub record Asks (pairs : List (Word × Word)) (job : Job) : Type 0 where
   pub database : values_of (codes "--db") pairs ≡ string_bytes job.database ∷ []
   pub t : map (fixed_of 2) (values_of (codes "--t") pairs) ≡ Some job.t ∷ []

@@ -11,3 +11,6 @@ mod reading;
 pub use fault::WordsFault;
 pub use job::Job;
 pub use reading::read_words;
+
+#[cfg(test)]
+mod tests;

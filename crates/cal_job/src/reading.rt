@@ -34,6 +34,7 @@ fn number(
     Ok(number)
 }
 
+/// The name and the amount, in nmol, of the two parts at `=`.
 fn item_from(alloc: Global, parts: &[&[u8]]) -> Result<(Name, u64), WordsFault>
     ensures value { IfOk result (λ item. item_of_parts (map (λ part. part.now) parts.now) ≡ Some item) }
     ensures range { IfOk result (λ item. (1000000 ≤ item.1) × (item.1 ≤ 1000000000000)) }
@@ -65,7 +66,7 @@ fn item(alloc: Global, text: &[u8]) -> Result<(Name, u64), WordsFault>
     Ok(item)
 }
 
-/// The name and the amount of `--amounts`.
+/// The name and the amount, in nmol, that `--amounts` gives.
 fn amounts(alloc: Global, pairs: &[Pair]) -> Result<(Name, u64), WordsFault>
     ensures value { IfOk result (λ item. map item_of (values_of (codes "--amounts") (pairs_of pairs.now)) ≡ Some item ∷ []) }
     ensures range { IfOk result (λ item. (1000000 ≤ item.1) × (item.1 ≤ 1000000000000)) }
@@ -76,6 +77,7 @@ fn amounts(alloc: Global, pairs: &[Pair]) -> Result<(Name, u64), WordsFault>
     Ok(item)
 }
 
+/// Whether the program has sublattices of so many parts.
 fn is_lattice(number: u64) -> bool
     ensures { result ≡ is_listed number }
 {
@@ -99,6 +101,7 @@ fn lattice(alloc: Global, pairs: &[Pair]) -> Result<u32, WordsFault>
     Ok(lattice as u32)
 }
 
+/// The temperature that `--t` gives, in hundredths of a kelvin.
 fn temperature(alloc: Global, pairs: &[Pair]) -> Result<u32, WordsFault>
     ensures value { IfOk result (λ t. map (fixed_of 2) (values_of (codes "--t") (pairs_of pairs.now)) ≡ Some t ∷ []) }
     ensures range { IfOk result (λ t. (100 ≤ t) × (t ≤ 600000)) }
@@ -108,6 +111,7 @@ fn temperature(alloc: Global, pairs: &[Pair]) -> Result<u32, WordsFault>
     Ok(t as u32)
 }
 
+/// The name of the file that `--db` gives.
 fn database(alloc: Global, pairs: &[Pair]) -> Result<String, WordsFault>
     ensures value { IfOk result (λ database. values_of (codes "--db") (pairs_of pairs.now) ≡ string_bytes database ∷ []) }
     ensures usage { result ≡ Err WordsFault.Usage → (name : Word) → ¬ (values_of (codes "--db") (pairs_of pairs.now) ≡ name ∷ []) }
@@ -139,7 +143,7 @@ fn asked(alloc: Global, pairs: &[Pair]) -> Result<Job, WordsFault>
     })
 }
 
-/// The job of the words behind the command word.
+/// The job of the words behind `equilibrium`.
 fn equilibrium(alloc: Global, words: &[String]) -> Result<Job, WordsFault>
     ensures says { IfOk result (λ job. Says (codes "equilibrium" ∷ map (λ word. string_bytes word) words.now) job) }
     ensures usage { result ≡ Err WordsFault.Usage → (job : Job) → ¬ Says (codes "equilibrium" ∷ map (λ word. string_bytes word) words.now) job }
@@ -155,7 +159,8 @@ fn equilibrium(alloc: Global, words: &[String]) -> Result<Job, WordsFault>
     Ok(job)
 }
 
-/// The job of the words behind the program's name.
+/// The job of the words behind the program's name: `equilibrium`, and then each of the options `--db`, `--t`, `--amounts`, `--lattice`,
+/// `--gap` and `--budget` once, in any order, with a value behind it that has its form and is in its range. Other words are `Usage`.
 pub fn read_words(alloc: Global, words: &[String]) -> Result<Job, WordsFault>
     ensures says { IfOk result (λ job. Says (map (λ word. string_bytes word) words.now) job) }
     ensures range { IfOk result (λ job. InRange job) }

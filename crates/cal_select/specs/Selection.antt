@@ -1,5 +1,5 @@
 -- The system of a database for one element, at t hundredths of a kelvin and on a lattice.
-use Rattle.std.specs.Prelude.{◌≡◌, ℕ, ◌+◌, ◌*◌, ◌<◌, List, [], ◌∷◌, length, map, filter, fold, max, sum, codes, Bool, true, false, not, ◌&&◌, is_some, Option, Some, None, Result, Ok, Err, ℤ, pos, ◌+ℤ◌, ◌*ℤ◌}
+use Rattle.std.specs.Prelude.{◌≡◌, ℕ, ◌*◌, ◌<◌, List, [], ◌∷◌, length, map, filter, fold, max, sum, codes, Bool, true, false, not, ◌&&◌, is_some, Option, Some, None, Result, Ok, Err, ℤ, pos, ◌+ℤ◌, ◌*ℤ◌}
 use Rattle.std.specs.Map.{lookup}
 use Rattle.cef_core.specs.declared.kind.Kind.TheVariants.{G}
 use Rattle.cef_core.specs.declared.phase.ParamAt.{ParamAt}

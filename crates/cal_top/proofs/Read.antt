@@ -1,5 +1,5 @@
 -- the bytes that were read are those that are told
-use Rattle.std.proofs.Common.{◌≡◌, ℕ, ◌≤◌, List, length, subst, Option, Some}
+use Rattle.std.proofs.Common.{◌≡◌, ℕ, ◌≤◌, List, length, subst, Option}
 use Rattle.std.specs.Prelude.{string_bytes}
 use Rattle.cal_base.specs.declared.status.Status.{Status}
 use Rattle.cal_base.specs.declared.status.Status.TheVariants.{Done, Usage, BadDatabase, BadSystem, GapNotClosed, Rejected, ReadFault, WriteFault, TooLong, Memory}

@@ -125,3 +125,12 @@ pub record RepliedPartly (told : Option Files) (faults faults_now given given_no
   pub rest : List ℕ
   pub why : Replies told faults faults_now given given_now words status printed
   pub appended : AppendsAllBut rest written written_now printed
+
+-- The words say the job, the library tells the bytes of its database, and no cause of a refusal stands.
+pub record IsAnswerable (told : Option Files) (words : List Word) (job : Job) (bytes : List ℕ) : Type 0 where
+  pub says : Says words job
+  pub tells : TellsFile told (string_bytes job.database) bytes
+  pub short : length bytes ≤ database_limit
+  pub no_fault : fault_of bytes ≡ None
+  pub known : is_known (database_of bytes) job.element ≡ true
+  pub some_phase : 0 < length (selected (database_of bytes) job.element)

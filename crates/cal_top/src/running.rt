@@ -1,7 +1,8 @@
 ghost use Rattle.std.specs.Prelude.{◌≡◌, ◌≢◌, ◌⊎◌, List, ℕ, map, string_bytes};
 ghost use Rattle.cal_base.specs.declared.status.Status.{Status};
 ghost use Rattle.cal_base.specs.Outside.{Rose, append_told, AppendsAllBut};
-ghost use Rattle.cal_top.specs.Replies.{Replied, RepliedPartly};
+ghost use Rattle.cal_job.specs.declared.job.Job.{Job};
+ghost use Rattle.cal_top.specs.Replies.{IsAnswerable, Replied, RepliedPartly};
 
 use crate::answer::answer;
 use crate::reply::Reply;
@@ -19,6 +20,7 @@ pub fn run<L: Library, K: Sink>(
     ensures replied { result ≢ Status.WriteFault → Replied (L.told files.old) (L.faults files.old) (L.faults files.new) (L.given files.old) (L.given files.new) (K.written out.old) (K.written out.new) (map (λ word. string_bytes word) words.now) result }
     ensures write { result ≡ Status.WriteFault → Rose (K.faults out.old) (K.faults out.new) }
     ensures partly { result ≡ Status.WriteFault → RepliedPartly (L.told files.old) (L.faults files.old) (L.faults files.new) (L.given files.old) (L.given files.new) (K.written out.old) (K.written out.new) (map (λ word. string_bytes word) words.now) }
+    ensures complete { (job : Job) (bytes : List ℕ) → IsAnswerable (L.told files.old) (map (λ word. string_bytes word) words.now) job bytes → ¬ Rose (L.faults files.old) (L.faults files.new) → ¬ Rose (K.faults out.old) (K.faults out.new) → (result ≡ Status.Done) ⊎ (result ≡ Status.Memory) }
 {
     let answered = answer(alloc, words, files);
     match answered {

@@ -1,9 +1,9 @@
 -- Lists that are kept one behind the other, with the place behind each.
-use Rattle.std.proofs.Common.{◌≡◌, ℕ, zero, suc, ◌<◌, Some, slice_get, slice_index, ◌+◌, ◌-◌, ◌≤◌, List, [], ◌∷◌, ◌++◌, length, take, drop, refl, arith, ap, sym, ◌∙◌, true, false}
+use Rattle.std.proofs.Common.{◌≡◌, ℕ, zero, suc, ◌<◌, Some, slice_get, slice_index, ◌+◌, ◌-◌, ◌≤◌, List, [], ◌∷◌, ◌++◌, length, take, drop, refl, arith, ap, ◌∙◌, true, false}
 use Rattle.std.specs.Prelude.{Bool, ◌&&◌, nat_le}
 use Rattle.std.specs.List.{concat}
 use Rattle.std.proofs.lemmas.Bool.{leb-true, le-leb, eqb-true, eq-eqb}
-use Rattle.std.proofs.lemmas.List.{length-drop, take-append-le, drop-append-le, take-append-drop, take_all, length-append, append-nil}
+use Rattle.std.proofs.lemmas.List.{length-drop, take-append-le, drop-append-le, take-append-drop, take_all, length-append}
 use Rattle.std.proofs.lemmas.List.{drop-drop}
 use Rattle.cef_core.specs.Sublattices.{parts_of, are_ends, start_at}
 

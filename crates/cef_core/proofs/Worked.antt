@@ -1,8 +1,7 @@
 -- The definitions at worked examples, by computing.
-use Rattle.std.proofs.Common.{◌≡◌, ℕ, List, [], ◌∷◌, refl, true, false}
-use Rattle.std.specs.Prelude.{ℤ, pos, negsuc}
-use Rattle.cal_math.specs.Logarithm.{log_of, log_step, log_summand, log_between}
-use Rattle.cef_core.specs.declared.phase.ParamAt.{ParamAt}
+use Rattle.std.proofs.Common.{◌≡◌, [], ◌∷◌, refl, true, false}
+use Rattle.std.specs.Prelude.{pos, negsuc}
+use Rattle.cal_math.specs.Logarithm.{log_of, log_step, log_summand}
 use Rattle.cef_core.specs.declared.kind.Kind.TheVariants.{G}
 use Rattle.cef_core.specs.Parameters.{parameter_value}
 use Rattle.cef_core.specs.Magnetism.{g_at, moment_of}

@@ -1,5 +1,5 @@
 -- Assemblages of constitutions, their totals and energies, and rivals.
-use Rattle.std.specs.Prelude.{◌≡◌, ℕ, ◌<◌, ◌≤◌, List, [], ◌∷◌, Some, length, slice_get, slice_index_or, All, ℤ, pos, ◌+ℤ◌, ◌-ℤ◌, ◌*ℤ◌, ◌≤ℤ◌}
+use Rattle.std.specs.Prelude.{◌≡◌, ℕ, ◌<◌, ◌≤◌, List, Some, length, slice_get, slice_index_or, All, ℤ, pos, ◌-ℤ◌, ◌*ℤ◌, ◌≤ℤ◌}
 use Rattle.std.specs.Option.{option_map_or}
 use Rattle.cal_math.specs.Sums.{sum_of}
 use Rattle.cef_core.specs.declared.phase.PhaseAt.{PhaseAt}

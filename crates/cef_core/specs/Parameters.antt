@@ -1,6 +1,6 @@
 -- The value of a parameter at a constitution: reference energies, binary interactions by Redlich and Kister, ternary and
 -- reciprocal interactions.
-use Rattle.std.specs.Prelude.{ℕ, zero, suc, ◌+◌, ◌*◌, ◌^◌, nat_lt, List, [], ◌∷◌, length, sum, map, filter, slice_index, Bool, true, false, ℤ, pos, ◌-ℤ◌, ◌*ℤ◌}
+use Rattle.std.specs.Prelude.{ℕ, zero, suc, ◌+◌, ◌*◌, ◌^◌, nat_lt, List, [], ◌∷◌, length, sum, map, filter, slice_index, Bool, true, ℤ, pos, ◌-ℤ◌, ◌*ℤ◌}
 use Rattle.std.specs.Int.{int_div_euclid}
 use Rattle.cef_core.specs.declared.phase.ParamAt.{ParamAt}
 

@@ -8,6 +8,8 @@ mod phase;
 mod report;
 mod site;
 mod system;
+#[cfg(test)]
+mod tests;
 mod tree;
 
 pub use entry::Entry;

@@ -1,5 +1,5 @@
 -- below the phase of least energy for its content the plane is below each phase
-use Rattle.std.proofs.Common.{◌≡◌, ℕ, ◌*◌, ◌<◌, ◌≤◌, List, [], ◌∷◌, Some, slice_get, refl, arith, ap, ◌∙◌}
+use Rattle.std.proofs.Common.{◌≡◌, ℕ, ◌*◌, ◌<◌, ◌≤◌, [], ◌∷◌, Some, slice_get, arith, ap, ◌∙◌}
 use Rattle.std.specs.Prelude.{ℤ, pos, ◌*ℤ◌, ◌≤ℤ◌, All}
 use Rattle.std.proofs.lemmas.Int.{ints}
 use Rattle.cal_math.specs.Whole.{*ℤ_comm, *ℤ_left, *ℤ_turn, pos-*ℤ-≤, ≤ℤ-*ℤ_cancel}

@@ -1,17 +1,16 @@
 -- the certificate of the figures
-use Rattle.std.proofs.Common.{◌≡◌, ℕ, ◌+◌, ◌*◌, ◌≤◌, ◌<◌, [], ◌∷◌, Some, slice_get, refl, arith, sym, ap, ◌∙◌, subst, length}
+use Rattle.std.proofs.Common.{◌≡◌, ℕ, ◌*◌, ◌≤◌, ◌<◌, [], ◌∷◌, refl, arith, sym, ap, ◌∙◌, subst, length}
 use Rattle.std.specs.Prelude.{ℤ, pos, ◌+ℤ◌, ◌-ℤ◌, ◌*ℤ◌, ◌≤ℤ◌, ◌<ℤ◌, All}
 use Rattle.std.specs.Int.{int_div_euclid}
 use Rattle.std.proofs.lemmas.Int.{ints}
-use Rattle.cal_math.specs.Whole.{le-floor, *ℤ-+ℤ, *ℤ_comm, *ℤ_left, *ℤ_assoc, *ℤ-≤, pos-*ℤ-≤, ≤ℤ-*ℤ_cancel}
-use Rattle.cal_math.specs.Sums.{sum_of}
+use Rattle.cal_math.specs.Whole.{le-floor, *ℤ-+ℤ, *ℤ_comm, *ℤ_left, *ℤ_assoc, *ℤ-≤, pos-*ℤ-≤}
 use Rattle.cef_core.specs.declared.phase.PhaseAt.{PhaseAt}
 use Rattle.cef_core.specs.declared.system.System.{System}
 use Rattle.cef_core.specs.declared.report.Report.{Report}
 use Rattle.cef_core.specs.Assemblages.{at}
-use Rattle.cef_core.specs.Certificates.{IsCertified, MeetsGap, valued}
+use Rattle.cef_core.specs.Certificates.{IsCertified, valued}
 use Rattle.eq_solve.specs.declared.figures.Figures.{Figures}
-use Rattle.cef_core.specs.Pure.{IsPure, ratio_of, reference_of}
+use Rattle.cef_core.specs.Pure.{IsPure}
 use Rattle.eq_solve.specs.Figuring.{AreFigures, AreNumbers}
 use Rattle.eq_solve.specs.Reporting.{Reports}
 use Rattle.eq_solve.proofs.Least.{pure_at}

@@ -1,6 +1,6 @@
 -- the energy of a pure phase is its reference energy, and its one constitution has all counts
-use Rattle.std.proofs.Common.{◌≡◌, ℕ, zero, suc, ◌+◌, ◌*◌, ◌-◌, ◌^◌, ◌≤◌, ◌<◌, List, [], ◌∷◌, Option, Some, refl, arith, ap, sym, ◌∙◌, subst, length, true, false}
-use Rattle.std.specs.Prelude.{ℤ, pos, ◌+ℤ◌, ◌*ℤ◌, ◌≤ℤ◌, ◌<ℤ◌, neg_ℤ, filter, Bool}
+use Rattle.std.proofs.Common.{◌≡◌, ℕ, ◌*◌, ◌-◌, ◌^◌, ◌≤◌, ◌<◌, List, [], ◌∷◌, Option, Some, refl, arith, ap, ◌∙◌, subst, length}
+use Rattle.std.specs.Prelude.{ℤ, pos, ◌*ℤ◌, ◌≤ℤ◌, neg_ℤ, filter}
 use Rattle.std.specs.Int.{int_div_euclid}
 use Rattle.std.proofs.lemmas.Int.{ints}
 use Rattle.std.proofs.Math.Nat.{pow-suc, pow-zero, zero-div}
@@ -8,13 +8,12 @@ use Rattle.std.specs.List.{AllByRecursion}
 use Rattle.cal_math.specs.Whole.{le-floor, floor-le, ≤ℤ-*ℤ_cancel, *ℤ_comm}
 use Rattle.cal_math.specs.Sums.{sum_of}
 use Rattle.cal_math.specs.Logarithm.{log_of}
-use Rattle.cef_core.specs.declared.kind.Kind.{Kind}
 use Rattle.cef_core.specs.declared.phase.ParamAt.{ParamAt}
 use Rattle.cef_core.specs.declared.phase.PhaseAt.{PhaseAt}
 use Rattle.cef_core.specs.Constitutions.{HasShape, content}
 use Rattle.cef_core.specs.Parameters.{parameter_value}
 use Rattle.cef_core.specs.Mixing.{mixing_at}
-use Rattle.cef_core.specs.Energies.{energy, sum_of_kind, is_energy}
+use Rattle.cef_core.specs.Energies.{energy, is_energy}
 use Rattle.cef_core.specs.Pure.{IsPure, IsReference, ratio_of, reference_of}
 
 -- the one list of counts of a pure phase

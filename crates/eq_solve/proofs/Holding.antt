@@ -1,5 +1,5 @@
 -- the report of the figures holds
-use Rattle.std.proofs.Common.{◌≡◌, ℕ, zero, suc, ◌*◌, ◌≤◌, ◌<◌, [], ◌∷◌, Some, slice_get, refl, arith, sym, ap, ◌∙◌, subst, length}
+use Rattle.std.proofs.Common.{◌≡◌, ℕ, zero, suc, ◌*◌, ◌≤◌, [], ◌∷◌, Some, slice_get, refl, arith, sym, subst, length}
 use Rattle.std.specs.Prelude.{ℤ, pos, ◌+ℤ◌, ◌-ℤ◌, ◌*ℤ◌, ◌≤ℤ◌, All}
 use Rattle.std.proofs.lemmas.Int.{ints}
 use Rattle.std.proofs.lemmas.Nat.{mul-le}
@@ -7,8 +7,7 @@ use Rattle.cef_core.specs.declared.phase.PhaseAt.{PhaseAt}
 use Rattle.cef_core.specs.declared.entry.Entry.{Entry}
 use Rattle.cef_core.specs.declared.system.System.{System}
 use Rattle.cef_core.specs.declared.report.Report.{Report}
-use Rattle.cef_core.specs.Constitutions.{IsConstitution, content}
-use Rattle.cef_core.specs.Energies.{energy}
+use Rattle.cef_core.specs.Constitutions.{IsConstitution}
 use Rattle.cef_core.specs.Assemblages.{IsEntry, content_of, energy_of, total, total_energy, at}
 use Rattle.cef_core.specs.Certificates.{valued}
 use Rattle.cef_core.specs.Holding.{Holds}

@@ -1,5 +1,5 @@
 -- the sizes of a total and of a pure phase's numbers
-use Rattle.std.proofs.Common.{◌≡◌, ℕ, ◌*◌, ◌≤◌, ◌^◌, List, [], ◌∷◌, arith}
+use Rattle.std.proofs.Common.{ℕ, ◌*◌, ◌≤◌, ◌^◌, List, [], ◌∷◌, arith}
 use Rattle.std.specs.Prelude.{ℤ, pos, ◌*ℤ◌, ◌≤ℤ◌, unsigned_abs}
 use Rattle.std.proofs.lemmas.Int.{ints}
 use Rattle.std.proofs.lemmas.Nat.{mul-le}

@@ -1,5 +1,5 @@
 -- The report of one entry.
-use Rattle.std.specs.Prelude.{◌≡◌, List, [], ◌∷◌, length, map, replicate, ℤ, pos, ◌-ℤ◌}
+use Rattle.std.specs.Prelude.{◌≡◌, [], ◌∷◌, length, map, replicate, ℤ, pos, ◌-ℤ◌}
 use Rattle.cef_core.specs.declared.system.System.{System}
 use Rattle.cef_core.specs.declared.entry.Entry.{Entry}
 use Rattle.cef_core.specs.declared.report.Report.{Report}

@@ -7,7 +7,7 @@ use Rattle.std.proofs.lemmas.List.{append-nil, take_all}
 use Rattle.cef_core.specs.declared.entry.Entry.{Entry}
 use Rattle.cef_core.specs.declared.report.Report.{Report}
 use Rattle.cef_core.specs.declared.tree.Tree.{Tree}
-use Rattle.cef_core.specs.Texts.{Word, Line, line, lines, text, number_words, node_words, entry_words, tree_lines}
+use Rattle.cef_core.specs.Texts.{Word, Line, line, text, number_words, node_words, entry_words, tree_lines}
 use Rattle.eq_text.specs.Parts.{head_lines, entry_lines, sum_lines, head_text, asked_text, entries_text, sums_text, trees_text, end_text}
 
 pub concat-append : (xs ys : List Line) → concat (xs ++ ys) ≡ concat xs ++ concat ys

@@ -1,7 +1,7 @@
 -- lines as words behind a space each
 use Rattle.std.proofs.Common.{◌≡◌, ℕ, zero, suc, Some, slice_get, add-one, List, [], ◌∷◌, ◌++◌, ◌+◌, ◌<◌, ◌≤◌, length, take, map, refl, sym, ap, ◌∙◌, append_assoc, arith}
 use Rattle.std.specs.Prelude.{ℤ, codes, slice_index_or}
-use Rattle.std.specs.List.{flat_map, concat, join_with_byte}
+use Rattle.std.specs.List.{flat_map, join_with_byte}
 use Rattle.std.specs.Fmt.{decimal, signed_decimal}
 use Rattle.std.proofs.lemmas.List.{append-nil, take_all}
 use Rattle.cef_core.specs.Texts.{Word, line, number_words, counts_words, more_counts}

@@ -1,4 +1,4 @@
-use Rattle.std.proofs.Common.{rules, ◌≡◌, ◌<◌, Some, arith, sym}
+use Rattle.std.proofs.Common.{rules, ◌≡◌, Some, arith}
 use Rattle.std.specs.Option.{option_map}
 use Rattle.cal_job.specs.Capped.{capped}
 use Rattle.cal_job.specs.Forms.{fixed_of}

@@ -1,4 +1,4 @@
-use Rattle.std.proofs.Common.{rules, string_bytes}
+use Rattle.std.proofs.Common.{string_bytes}
 use Rattle.cal_job.proofs.Pairing.{spells_start, spells_on}
 use Rattle.cal_job.proofs.pairs.pairs.Goals as goal
 

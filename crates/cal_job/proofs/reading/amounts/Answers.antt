@@ -1,4 +1,4 @@
-use Rattle.std.proofs.Common.{rules, ◌≡◌, Err, Some, codes}
+use Rattle.std.proofs.Common.{rules, Some, codes}
 use Rattle.cal_job.specs.Forms.{item_of}
 use Rattle.cal_job.specs.Pairs.{pairs_of}
 use Rattle.cal_job.specs.Saying.{values_of}

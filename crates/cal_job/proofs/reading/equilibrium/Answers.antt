@@ -1,8 +1,8 @@
-use Rattle.std.proofs.Common.{rules, ◌≡◌, ◌%◌, length, string_bytes, map, true, false, List, ℕ, sym, ◌∙◌, ap}
+use Rattle.std.proofs.Common.{rules, ◌≡◌, string_bytes, false, sym, ◌∙◌}
 use Rattle.std.specs.List.{list_all}
 use Rattle.std.proofs.lemmas.Bool.{true≢false}
 use Rattle.cal_job.specs.Pairs.{pairs_of}
-use Rattle.cal_job.specs.Saying.{is_plain, spelling}
+use Rattle.cal_job.specs.Saying.{is_plain}
 use Rattle.cal_job.proofs.Commands.{Reads, says_reads, odd_says}
 use Rattle.cal_job.proofs.reading.equilibrium.Goals as goal
 

@@ -1,4 +1,4 @@
-use Rattle.std.proofs.Common.{rules, ◌≡◌, Err, Some}
+use Rattle.std.proofs.Common.{rules, Some}
 use Rattle.cal_job.specs.Forms.{fixed_of}
 use Rattle.cal_job.specs.Pairs.{pairs_of}
 use Rattle.cal_job.specs.Saying.{values_of}

@@ -1,4 +1,4 @@
-use Rattle.std.proofs.Common.{◌≡◌, ◌*◌, ◌≤◌, ap, arith, rules, refl, SFits}
+use Rattle.std.proofs.Common.{◌≡◌, ◌*◌, ◌≤◌, arith, rules, refl, SFits}
 use Rattle.std.specs.Int.{w128, w64}
 use Rattle.std.specs.Prelude.{pos, ◌+ℤ◌, ◌*ℤ◌, unsigned_abs}
 use Rattle.std.proofs.lemmas.Int.{ints, to_z-of_z}

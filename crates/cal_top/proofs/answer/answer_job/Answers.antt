@@ -1,4 +1,4 @@
-use Rattle.std.proofs.Common.{◌≤◌, ◌^◌, length, arith, rules}
+use Rattle.std.proofs.Common.{◌≤◌, ◌^◌, length, rules}
 use Rattle.cal_top.specs.Replies.{FromBytes}
 use Rattle.cal_top.proofs.Read.{FromFiles-from_bytes}
 use Rattle.cal_top.proofs.answer.answer_job.Goals as goal

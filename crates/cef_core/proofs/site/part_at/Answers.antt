@@ -1,4 +1,4 @@
-use Rattle.std.proofs.Common.{◌≡◌, ◌≤◌, ◌+◌, ◌-◌, length, take, drop, Some, slice_index, refl, arith, ap, sym, ◌∙◌, List, ℕ}
+use Rattle.std.proofs.Common.{◌≡◌, ◌≤◌, ◌+◌, ◌-◌, length, take, drop, Some, slice_index, arith, ap, sym, ◌∙◌, ℕ}
 use Rattle.std.proofs.lemmas.List.{length-take-le, drop-take}
 use Rattle.cef_core.specs.Sublattices.{start_at}
 use Rattle.cef_core.proofs.Parts.{part_is}

@@ -1,7 +1,7 @@
-use Rattle.std.proofs.Common.{◌≡◌, ◌*◌, rules, refl, SFits, slice_get, Some, sym, ◌∙◌, ap, ℕ}
+use Rattle.std.proofs.Common.{◌≡◌, ◌*◌, rules, refl, SFits, slice_get, Some, ◌∙◌, ap, ℕ}
 use Rattle.std.specs.Prelude.{pos}
 use Rattle.std.specs.Int.{w128}
-use Rattle.std.proofs.lemmas.Int.{ints, to_z-of_z}
+use Rattle.std.proofs.lemmas.Int.{to_z-of_z}
 use Rattle.std.proofs.lemmas.Option.{slice_get_read}
 use Rattle.cef_core.specs.Pure.{ratio_of}
 use Rattle.eq_solve.proofs.Least.{pure_at}

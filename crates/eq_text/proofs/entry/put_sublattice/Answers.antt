@@ -1,4 +1,4 @@
-use Rattle.std.proofs.Common.{arith, ◌≡◌, ap, ◌∙◌}
+use Rattle.std.proofs.Common.{arith, ap, ◌∙◌}
 use Rattle.eq_text.proofs.Spaced.{first_sublattice, later_sublattice}
 use Rattle.eq_text.proofs.entry.put_sublattice.Goals as goal
 use Rattle.eq_text.proofs.entry.put_sublattice.Goals.{then-place-gt0+in_ok-put_word, else-place-gt0}

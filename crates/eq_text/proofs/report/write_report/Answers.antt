@@ -1,4 +1,4 @@
-use Rattle.std.proofs.Common.{◌≡◌, ◌++◌, [], sym, ◌∙◌, ap, List, ℕ, rules}
+use Rattle.std.proofs.Common.{◌++◌, [], sym, ◌∙◌, ap, List, ℕ, rules}
 use Rattle.eq_text.specs.Parts.{head_text, asked_text, entries_text, sums_text, trees_text, end_text}
 use Rattle.eq_text.proofs.Joined.{six_parts, text-parts}
 use Rattle.eq_text.proofs.report.write_report.Goals as goal

@@ -1,4 +1,4 @@
-use Rattle.std.proofs.Common.{◌≡◌, ◌<◌, length, arith, sym, slice_index_or, [], refl}
+use Rattle.std.proofs.Common.{◌<◌, length, arith, sym, [], refl}
 use Rattle.std.proofs.lemmas.Option.{slice_get_read, get_or_from_slice_get}
 use Rattle.eq_text.proofs.Joined.{trees-next, trees-none}
 use Rattle.eq_text.proofs.tree.put_trees.Goals as goal
