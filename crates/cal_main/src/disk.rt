@@ -1,4 +1,4 @@
-ghost use Rattle.std.specs.Prelude.{None};
+ghost use Rattle.std.specs.Prelude.{◌≡◌, None};
 
 use cal_base::{Failed, Library};
 use std::fs::File;
@@ -14,7 +14,11 @@ pub struct DiskLibrary<'a, R> {
 }
 
 impl<'a, R: Files<File = File>> DiskLibrary<'a, R> {
-    pub fn new(rt: &'a R) -> Self {
+    /// Each of its counts starts at 0.
+    pub fn new(rt: &'a R) -> Self
+        ensures given { result.given ≡ 0 }
+        ensures faults { result.faults ≡ 0 }
+    {
         DiskLibrary {
             rt,
             given: 0,

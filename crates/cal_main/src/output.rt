@@ -1,4 +1,4 @@
-ghost use Rattle.std.specs.Prelude.{None};
+ghost use Rattle.std.specs.Prelude.{◌≡◌, None};
 
 use cal_base::{Failed, Sink};
 
@@ -10,7 +10,10 @@ pub struct OutSink<'a, P> {
 }
 
 impl<'a, P: Print> OutSink<'a, P> {
-    pub fn new(rt: &'a P) -> Self {
+    /// Its count starts at 0.
+    pub fn new(rt: &'a P) -> Self
+        ensures { result.faults ≡ 0 }
+    {
         OutSink { rt, faults: 0 }
     }
 }

@@ -129,7 +129,9 @@ pub(crate) fn answer<L: Library>(
     words: &[String],
     files: &mut L,
 ) -> Result<Reply, AllocError>
-    ensures { IfOk result (λ reply. Replies (L.told files.old) (L.faults files.old) (L.faults files.new) (L.given files.old) (L.given files.new) (map (λ word. string_bytes word) words.now) reply.status reply.text.items) }
+    ensures { IfOk result (λ reply.
+        Replies (L.told files.old) (L.faults files.old) (L.faults files.new) (L.given files.old) (L.given files.new)
+        (map (λ word. string_bytes word) words.now) reply.status reply.text.items) }
 {
     let said = read_words(alloc, words);
     match said {
@@ -148,7 +150,9 @@ pub(crate) fn answer<L: Library>(
 /// The reply to a job.
 fn answer_job<L: Library>(alloc: Global, job: &Job, files: &mut L) -> Result<Reply, AllocError>
     requires range { InRange job.now }
-    ensures { IfOk result (λ reply. FromFiles (L.told files.old) (L.faults files.old) (L.faults files.new) (L.given files.old) (L.given files.new) job.now reply.status reply.text.items) }
+    ensures { IfOk result (λ reply.
+        FromFiles (L.told files.old) (L.faults files.old) (L.faults files.new) (L.given files.old) (L.given files.new)
+        job.now reply.status reply.text.items) }
 {
     let loaded = load(alloc, files, job.database.as_str(), DATABASE_LIMIT);
     match loaded {

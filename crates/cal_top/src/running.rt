@@ -17,10 +17,22 @@ pub fn run<L: Library, K: Sink>(
     files: &mut L,
     out: &mut K,
 ) -> Status
-    ensures replied { result ≢ Status.WriteFault → Replied (L.told files.old) (L.faults files.old) (L.faults files.new) (L.given files.old) (L.given files.new) (K.written out.old) (K.written out.new) (map (λ word. string_bytes word) words.now) result }
+    // What was appended, and why.
+    ensures replied { result ≢ Status.WriteFault →
+        Replied (L.told files.old) (L.faults files.old) (L.faults files.new) (L.given files.old) (L.given files.new)
+        (K.written out.old) (K.written out.new) (map (λ word. string_bytes word) words.now) result }
+
+    // A failed write leaves a front of a reply.
     ensures write { result ≡ Status.WriteFault → Rose (K.faults out.old) (K.faults out.new) }
-    ensures partly { result ≡ Status.WriteFault → RepliedPartly (L.told files.old) (L.faults files.old) (L.faults files.new) (L.given files.old) (L.given files.new) (K.written out.old) (K.written out.new) (map (λ word. string_bytes word) words.now) }
-    ensures complete { (job : Job) (bytes : List ℕ) → IsAnswerable (L.told files.old) (map (λ word. string_bytes word) words.now) job bytes → ¬ Rose (L.faults files.old) (L.faults files.new) → ¬ Rose (K.faults out.old) (K.faults out.new) → (result ≡ Status.Done) ⊎ (result ≡ Status.Memory) }
+    ensures partly { result ≡ Status.WriteFault →
+        RepliedPartly (L.told files.old) (L.faults files.old) (L.faults files.new) (L.given files.old) (L.given files.new)
+        (K.written out.old) (K.written out.new) (map (λ word. string_bytes word) words.now) }
+
+    // Where no cause of a refusal stands and no count rose, the run is done, or has no memory.
+    ensures complete { (job : Job) (bytes : List ℕ) →
+        IsAnswerable (L.told files.old) (map (λ word. string_bytes word) words.now) job bytes →
+        ¬ Rose (L.faults files.old) (L.faults files.new) → ¬ Rose (K.faults out.old) (K.faults out.new) →
+        (result ≡ Status.Done) ⊎ (result ≡ Status.Memory) }
 {
     let answered = answer(alloc, words, files);
     match answered {
@@ -31,8 +43,11 @@ pub fn run<L: Library, K: Sink>(
 
 fn write<K: Sink>(reply: Reply, out: &mut K) -> Status
     requires { reply.status ≢ Status.WriteFault }
-    ensures ok { result ≢ Status.WriteFault → (result ≡ reply.status) × (K.written out.new ≡ append_told (K.written out.old) reply.text.items) }
-    ensures write { result ≡ Status.WriteFault → Rose (K.faults out.old) (K.faults out.new) × ((rest : List ℕ) × AppendsAllBut rest (K.written out.old) (K.written out.new) reply.text.items) }
+    ensures ok { result ≢ Status.WriteFault →
+        (result ≡ reply.status) × (K.written out.new ≡ append_told (K.written out.old) reply.text.items) }
+    ensures write { result ≡ Status.WriteFault →
+        Rose (K.faults out.old) (K.faults out.new)
+        × ((rest : List ℕ) × AppendsAllBut rest (K.written out.old) (K.written out.new) reply.text.items) }
 {
     match write_all(out, reply.text.as_slice()) {
         Ok(()) => reply.status,

@@ -1,5 +1,7 @@
+ghost use Rattle.std.specs.Prelude.{None};
+
 use crate::run;
-use cal_base::{MemoryLibrary, MemorySink, Status};
+use cal_base::{Failed, Library, MemoryLibrary, MemorySink, Sink, Status};
 use std::alloc::{AllocError, Global};
 use std::test::Fail;
 
@@ -147,5 +149,49 @@ fn faults_of_the_outside_end_a_run_at_their_place(rt: HostRuntime) -> Result<(),
     let unknown = "refused system unknown-element A\n";
     assert!(rt; gives_over_spaces(alloc, 16777216, 0, unknown, Status::BadSystem)?);
     assert!(rt; gives_over_spaces(alloc, 16777217, 0, "refused long\n", Status::TooLong)?);
+    Ok(())
+}
+
+/// Files that can't be read, and a sink that takes nothing.
+#[derive(Drop)]
+struct Broken {
+    faults: u64,
+}
+
+impl Library for Broken {
+    ghost told = { λ _. None };
+
+    ghost given = { λ _. 0 };
+
+    ghost faults = { λ b. b.faults };
+
+    fn piece(&mut self, _name: &str, _from: u64, _buf: &mut [u8]) -> Result<usize, Failed> {
+        self.faults = self.faults.saturating_add(1);
+        Err(Failed)
+    }
+}
+
+impl Sink for Broken {
+    ghost written = { λ _. None };
+
+    ghost faults = { λ b. b.faults };
+
+    fn put(&mut self, _piece: &[u8]) -> Result<usize, Failed> {
+        self.faults = self.faults.saturating_add(1);
+        Err(Failed)
+    }
+}
+
+#[test]
+fn a_run_over_a_broken_outside_calls_it_once(rt: HostRuntime) -> Result<(), Fail> {
+    let words = words_of(rt.alloc(), AT_1000)?;
+    let mut files = Broken { faults: 0 };
+    let mut out = Broken { faults: 0 };
+    assert_eq!(rt;
+        run(rt.alloc(), words.as_slice(), &mut files, &mut out),
+        Status::WriteFault
+    );
+    assert_eq!(rt; files.faults, 1);
+    assert_eq!(rt; out.faults, 1);
     Ok(())
 }

@@ -137,6 +137,23 @@ fn an_exchange_gives_the_rows_of_the_new_basis(rt: HostRuntime) -> Result<(), Fa
             },
         ],
     )?;
+    // Degenerate for the target (1, 1), of which the second row's product is 0.
+    check(
+        &rt,
+        alloc,
+        2,
+        &[&[1, 1], &[0, 1]],
+        &[
+            Want {
+                numbers: &[1, 0],
+                own: 1,
+            },
+            Want {
+                numbers: &[-1, 1],
+                own: 1,
+            },
+        ],
+    )?;
     check(
         &rt,
         alloc,
