@@ -10,6 +10,7 @@ use disk::DiskLibrary;
 use output::OutSink;
 use std::alloc::{AllocError, Global};
 use std::env;
+use std::io::ErrorKind;
 use std::process::ExitCode;
 use std::rt::Env;
 
@@ -22,6 +23,7 @@ fn words<R: Env + AllocGlobal>(rt: &R) -> Result<Vec<String>, AllocError> {
                 words.push(word)?;
             }
         }
+        Err(fault) if fault.kind() == ErrorKind::OutOfMemory => return Err(AllocError),
         Err(_) => {}
     }
     Ok(words)
