@@ -8,16 +8,10 @@ ghost use Rattle.cal_job.specs.Capped.{capped};
 
 use crate::fault::WordsFault;
 use std::alloc::{AllocError, Global};
-use tdb_scan::is_whole_number;
+use tdb_scan::{is_digit_byte, is_whole_number};
 
 /// Above each number that a command line may give: where a number has grown to it, the value is out of range whatever follows.
 const CAP: u64 = 10_000_000_000_000;
-
-fn is_digit_byte(byte: u8) -> bool
-    ensures { result ≡ is_digit byte }
-{
-    byte > 47 && byte < 58
-}
 
 fn all_digits(text: &[u8]) -> bool
     ensures { result ≡ list_all is_digit text.now }
