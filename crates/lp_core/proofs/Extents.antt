@@ -1,8 +1,9 @@
 -- The greatest sum and the dearest cost of a front of the columns.
 use Rattle.std.proofs.Common.{◌≡◌, ℕ, zero, suc, ◌<◌, ◌≤◌, List, [], ◌∷◌, length, get_or, take, arith, max, refl}
 use Rattle.std.specs.Prelude.{unsigned_abs}
-use Rattle.lp_core.specs.Columns.{sum_at, widest, dearest}
-use Rattle.lp_core.specs.declared.column.Column.{Column}
+use Rattle.lp_basis.specs.Columns.{sum_at}
+use Rattle.lp_core.specs.Fitting.{widest, dearest}
+use Rattle.lp_basis.specs.declared.column.Column.{Column}
 
 pub widest-more : (n i : ℕ) (columns : List Column) (d : Column) → i < length columns → widest n (take (suc i) columns) ≡ max (sum_at n (get_or columns i d)) (widest n (take i columns))
 unfolding widest

@@ -1,10 +1,7 @@
-pub mod Rows
-pub mod Columns
-pub mod Ratios
-pub mod Held
-pub mod Steps
-pub mod Potentials
-pub mod Pricing
-pub mod Leaving
-pub mod Stages
-pub mod Running
+pub mod Fitting
+pub mod Plans
+pub mod Ends
+pub mod Starts
+pub mod Phases
+pub mod Seconds
+pub mod Weights

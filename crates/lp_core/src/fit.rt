@@ -1,8 +1,8 @@
 ghost use Rattle.std.specs.Prelude.{ℕ, ◌≤◌, ◌^◌, length, MatchOption};
 ghost use Rattle.std.specs.Bool.{OnTrue, OnFalse};
-ghost use Rattle.lp_core.specs.Columns.{IsTarget, IsMeasured, IsExtent, HasRoom, Fits};
+ghost use Rattle.lp_core.specs.Fitting.{IsTarget, IsMeasured, IsExtent, HasRoom, Fits};
 
-use crate::column::{Column, sum_of};
+use lp_basis::{Column, sum_of};
 
 /// The greatest sum of a column, and the greatest magnitude of a cost.
 #[derive(Clone, Copy)]

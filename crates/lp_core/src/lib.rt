@@ -1,27 +1,19 @@
-//! Exact linear plans: whole columns, and the rows of a basis of them.
+//! Exact linear plans: the weights of whole columns that give a target at the least cost, with the potentials that prove it.
 #![tactic(auto)]
 
-mod basis;
-mod column;
-mod divisor;
-mod entering;
+mod fault;
+mod first;
 mod fit;
-mod improving;
-mod leaving;
-mod phase;
-mod potential;
-mod ratio;
-mod row;
-mod stage;
+mod plan;
+mod second;
+mod solving;
+mod start;
 #[cfg(test)]
 mod tests;
-mod unit;
+mod weight;
 
-pub use basis::exchange;
-pub use column::Column;
-pub use divisor::gcd;
+pub use fault::LpFault;
 pub use fit::fits;
-pub use potential::{Potentials, potentials_of};
-pub use ratio::{compare, compare_signed};
-pub use row::{Row, product};
-pub use unit::units;
+pub use lp_basis::Column;
+pub use plan::Plan;
+pub use solving::solve;

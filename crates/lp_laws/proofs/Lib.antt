@@ -19,3 +19,4 @@ pub mod Measure
 pub mod Weights
 pub mod Summands
 pub mod Steps
+pub mod Idle

@@ -3,8 +3,9 @@ use Rattle.std.specs.Prelude.{unsigned_abs}
 use Rattle.std.specs.Int.{w128}
 use Rattle.std.proofs.lemmas.Int.{ints, to_z-of_z}
 use Rattle.std.proofs.lemmas.List.Elements.{All-more, All-get_or}
-use Rattle.lp_core.specs.Columns.{IsColumn, IsMeasured, IsExtent, sum_at, widest, dearest}
-use Rattle.lp_core.specs.declared.column.Column.{Column}
+use Rattle.lp_basis.specs.Columns.{IsColumn, sum_at}
+use Rattle.lp_core.specs.Fitting.{IsMeasured, IsExtent, widest, dearest}
+use Rattle.lp_basis.specs.declared.column.Column.{Column}
 use Rattle.lp_core.proofs.Extents.{widest-more, dearest-more, sum-le_widest}
 use Rattle.lp_core.proofs.fit.extent_of.Goals as goal
 

@@ -1,6 +1,7 @@
 use Rattle.std.proofs.Common.{◌≡◌, ◌≤◌, ◌^◌, take}
 use Rattle.std.specs.Prelude.{All}
-use Rattle.lp_core.specs.Columns.{IsColumn, widest, dearest}
+use Rattle.lp_basis.specs.Columns.{IsColumn}
+use Rattle.lp_core.specs.Fitting.{widest, dearest}
 use Rattle.lp_core.proofs.fit.extent_of.Given as goal
 
 abbrev pub invariant-columns : goal.invariant-columns

@@ -2,8 +2,9 @@ use Rattle.std.proofs.Common.{ℕ, zero, suc, ◌≤◌, ◌^◌, List, [], ◌�
 use Rattle.std.specs.Prelude.{All}
 use Rattle.std.proofs.lemmas.List.Elements.{All-head, All-tail}
 use Rattle.std.proofs.Math.Nat.{pow-suc, one-le-pow, mul-le-mul_right}
-use Rattle.lp_core.specs.Columns.{IsColumn, widest, dearest}
-use Rattle.lp_core.specs.declared.column.Column.{Column}
+use Rattle.lp_basis.specs.Columns.{IsColumn}
+use Rattle.lp_core.specs.Fitting.{widest, dearest}
+use Rattle.lp_basis.specs.declared.column.Column.{Column}
 use Rattle.lp_core.proofs.Extents.{one-le_widest}
 use Rattle.lp_core.proofs.fit.fits.Goals as goal
 

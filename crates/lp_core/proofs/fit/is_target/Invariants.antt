@@ -1,7 +1,7 @@
 use Rattle.std.proofs.Common.{ℕ, ◌<◌, ◌^◌}
 use Rattle.std.specs.Prelude.{pos, ◌≤ℤ◌}
 use Rattle.std.specs.Bool.{OnTrue, OnFalse}
-use Rattle.lp_core.specs.Rows.{at}
+use Rattle.lp_basis.specs.Rows.{at}
 use Rattle.lp_core.proofs.fit.is_target.Given as goal
 
 abbrev pub invariant-amounts : goal.invariant-amounts

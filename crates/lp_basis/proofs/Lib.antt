@@ -1,0 +1,9 @@
+pub mod Lists
+pub mod Products
+pub mod Ratios
+pub mod Next
+pub mod Held
+pub mod Placed
+pub mod UnitRows
+pub mod Summing
+pub mod Pricing

@@ -1,0 +1,7 @@
+use Rattle.std.proofs.Common.{◌≡◌}
+use Rattle.lp_laws.specs.Vectors.{dot}
+use Rattle.lp_basis.specs.Rows.{at}
+use Rattle.lp_basis.proofs.row.product.Given as goal
+
+abbrev pub invariant-sum : goal.invariant-sum
+invariant-sum l = l.sum ≡ dot l.i (at l.row) (at l.column)

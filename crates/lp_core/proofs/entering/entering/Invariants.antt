@@ -1,8 +1,0 @@
-use Rattle.std.proofs.Common.{take, length}
-use Rattle.std.specs.Prelude.{All}
-use Rattle.lp_core.specs.Rows.{at}
-use Rattle.lp_core.specs.Pricing.{IsDear}
-use Rattle.lp_core.proofs.entering.entering.Given as goal
-
-abbrev pub invariant-columns : goal.invariant-columns
-invariant-columns l = All (IsDear (length l.numbers) l.phase (at l.numbers) l.denominator) (take l.k l.columns)

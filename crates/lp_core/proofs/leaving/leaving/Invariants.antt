@@ -1,5 +1,0 @@
-use Rattle.lp_core.specs.Leaving.{IsBestOf}
-use Rattle.lp_core.proofs.leaving.leaving.Given as goal
-
-abbrev pub invariant-rows : goal.invariant-rows
-invariant-rows l = IsBestOf l.rows l.column l.starts l.j l.best

@@ -1,5 +1,0 @@
-use Rattle.lp_core.specs.Potentials.{IsDivisor}
-use Rattle.lp_core.proofs.potential.common_divisor.Given as goal
-
-abbrev pub invariant-rests : goal.invariant-rests
-invariant-rests l = IsDivisor l.parts l.all l.c l.divisor

@@ -1,6 +1,0 @@
-use Rattle.std.proofs.Common.{rules}
-use Rattle.lp_core.proofs.Pricing.{at_zeros}
-use Rattle.lp_core.proofs.potential.zeros.Goals as goal
-
-pub zeros-preserved : goal.zeros-preserved
-zeros-preserved c = record { same = search rules; are = λ k. rw c.in_ok-push.ensures.items (at_zeros c.zeros.numbers.items k c.zeros.invariant.are) }

@@ -1,9 +1,0 @@
-use Rattle.std.proofs.Common.{◌≡◌, ℕ, ◌<◌, length, ◌*ℤ◌}
-use Rattle.lp_core.specs.Rows.{at}
-use Rattle.lp_core.proofs.row.divided.Given as goal
-
-abbrev pub invariant-divide : goal.invariant-divide
-invariant-divide l = record {
-  same : length l.numbers.items ≡ l.i;
-  is : (c : ℕ) → c < l.i → l.d *ℤ at l.numbers.items c ≡ at l.row c;
-}

@@ -1,0 +1,4 @@
+pub mod RatioTest
+pub mod Moving
+pub mod Improvement
+pub mod Ending

@@ -1,0 +1,4 @@
+pub mod Pricing
+pub mod Leaving
+pub mod Stages
+pub mod Running
