@@ -9,3 +9,6 @@ pub mod Assemblages
 pub mod Holding
 pub mod Certificates
 pub mod Texts
+pub mod Names
+pub mod Lattices
+pub mod Spelled

@@ -1,0 +1,71 @@
+-- Which reports have a text: the limits of their names, lists, numbers and trees.
+use Rattle.std.specs.Prelude.{◌≡◌, ℕ, ◌<◌, ◌≤◌, ◌^◌, List, [], ◌∷◌, length, true, ℤ, pos, ◌≤ℤ◌, unsigned_abs}
+use Rattle.std.specs.List.{AllByRecursion, concat}
+use Rattle.cef_core.specs.declared.entry.Entry.{Entry}
+use Rattle.cef_core.specs.declared.report.Report.{Report}
+use Rattle.cef_core.specs.declared.tree.Node.{Node}
+use Rattle.cef_core.specs.declared.tree.Node.TheVariants.{Split, Leaf, Empty}
+use Rattle.cef_core.specs.declared.tree.Tree.{Tree}
+use Rattle.cef_core.specs.Lattices.{is_lattice}
+use Rattle.cef_core.specs.Names.{AreNames}
+
+-- a whole number of a magnitude of at most 2^120
+abbrev pub IsNumber : ℤ → Type 0
+IsNumber x = unsigned_abs x ≤ 2 ^ 120
+
+-- from 0 to 2^50
+abbrev pub IsAsked : ℤ → Type 0
+IsAsked x = (pos 0 ≤ℤ x) × (x ≤ℤ pos (2 ^ 50))
+
+-- the counts of a sublattice: one or more, each from 0 to 65535
+abbrev pub AreCounts : List ℕ → Type 0
+AreCounts counts = (0 < length counts) × AllByRecursion (λ k. k ≤ 65535) counts
+
+-- 1 to 10 sublattices with at most 90 counts in all
+pub record IsSpelledSite (site : List (List ℕ)) : Type 0 where
+  pub some : 0 < length site
+  pub most : length site ≤ 10
+  pub counts : AllByRecursion AreCounts site
+  pub most_counts : length (concat site) ≤ 90
+
+-- the place of a phase, an amount from 1 to 2^50, and counts
+pub record IsSpelledEntry (phases : ℕ) (entry : Entry) : Type 0 where
+  pub phase : entry.phase < phases
+  pub amount_low : pos 1 ≤ℤ entry.amount
+  pub amount_high : entry.amount ≤ℤ pos (2 ^ 50)
+  pub site : IsSpelledSite entry.site
+
+-- The nodes of one box in preorder, in front of the nodes `rest`: a leaf of one or more multipliers, an empty box, or a split
+-- and the nodes of its two parts.
+pub data Spans : List Node → List Node → Type 0 where
+  leaf : (multipliers : List ℤ) (rest : List Node) → 0 < length multipliers → AllByRecursion IsNumber multipliers → Spans (Leaf multipliers ∷ rest) rest
+  none : (rest : List Node) → Spans (Empty ∷ rest) rest
+  cut : (place at : ℕ) (nodes middle rest : List Node) → place ≤ 65535 → at ≤ 65535 → Spans nodes middle → Spans middle rest → Spans (Split place at ∷ nodes) rest
+
+-- the nodes of the whole box of a phase, and nothing behind them
+abbrev pub IsSpelledTree : Tree → Type 0
+IsSpelledTree tree = Spans tree.nodes []
+
+-- a number for each element
+abbrev pub AreNumbers : ℕ → List ℤ → Type 0
+AreNumbers elements numbers = (length numbers ≡ elements) × AllByRecursion IsNumber numbers
+
+pub record IsSpelled (r : Report) : Type 0 where
+  pub temperature_low : 100 ≤ r.t
+  pub temperature_high : r.t ≤ 600000
+  pub lattice : is_lattice r.lattice ≡ true
+  pub elements : AreNames r.elements
+  pub few_elements : length r.elements ≤ 8
+  pub phases : AreNames r.phases
+  pub asked : (length r.asked ≡ length r.elements) × AllByRecursion IsAsked r.asked
+  pub few_entries : length r.entries ≤ 32
+  pub entries : AllByRecursion (IsSpelledEntry (length r.phases)) r.entries
+  pub totals : AreNumbers (length r.elements) r.totals
+  pub energy : IsNumber r.energy
+  pub tolerance_low : pos 0 ≤ℤ r.tolerance
+  pub tolerance_high : r.tolerance ≤ℤ pos (2 ^ 60)
+  pub gap_low : pos 0 ≤ℤ r.gap
+  pub gap_high : r.gap ≤ℤ pos (2 ^ 110)
+  pub potentials : AreNumbers (length r.elements) r.potentials
+  pub one_tree_each : length r.trees ≡ length r.phases
+  pub trees : AllByRecursion IsSpelledTree r.trees
