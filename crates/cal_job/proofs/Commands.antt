@@ -1,11 +1,14 @@
 -- The words of a command have one reading.
-use Rattle.std.proofs.Common.{◌≡◌, ℕ, ◌*◌, ◌%◌, List, [], ◌∷◌, map, length, codes, true, false, Option, Some, refl, sym, ap, subst, ◌∙◌, arith}
+use Rattle.std.proofs.Common.{◌≡◌, ℕ, ◌*◌, ◌%◌, List, [], ◌∷◌, map, length, codes, Bool, true, false, cond, Option, Some, None, refl, sym, ap, subst, ◌∙◌, arith}
 use Rattle.std.specs.List.{list_all}
 use Rattle.std.proofs.lemmas.List.{length-map}
 use Rattle.std.specs.Cmp.Lexicographic.{same_text, other_text}
-use Rattle.tdb_scan.specs.Words.{same_word}
+use Rattle.std.specs.Option.{option_map}
+use Rattle.tdb_scan.specs.Words.{same_word, is_name}
 use Rattle.cal_job.specs.declared.job.Job.{Job}
-use Rattle.cal_job.specs.Saying.{Word, is_plain, spelling, Asks, Says, SameJob}
+use Rattle.cal_job.specs.Forms.{upper, fixed_of, item_from, item_of}
+use Rattle.cal_job.proofs.Pairing.{Only, only}
+use Rattle.cal_job.specs.Saying.{Word, is_plain, spelling, values_of, Asks, Says, SameJob}
 
 pair_one : (p q : Word × Word) → p.0 ≡ q.0 → p.1 ≡ q.1 → p ≡ q
 pair_one (a, b) (c, d) first second = cc
@@ -82,3 +85,28 @@ pub Says_one : (words : List Word) (job other : Job) → Says words job → Says
 Says_one words job other is o =
     let same : o.pairs ≡ is.pairs = spelling_one o.pairs is.pairs (behind_word _ _ _ _ (sym o.spelled ∙ is.spelled)) in
     asks_one is.pairs job other is.asked (subst (λ (ps : List (Word × Word)). Asks ps other) same o.asked)
+
+-- the element of an item is a name
+item_from_name : (parts : List Word) (item : Word × ℕ) → item_from parts ≡ Some item → is_name item.0 ≡ true
+item_from_name [] item e = absurd cc
+item_from_name (name ∷ []) item e = absurd cc
+item_from_name (name ∷ number ∷ []) item e = by_test (is_name (upper name)) refl e
+  where
+    by_number : (o : Option ℕ) → is_name (upper name) ≡ true → option_map (λ n. (upper name, n)) o ≡ Some item → is_name item.0 ≡ true
+    by_number None is made = absurd cc
+    by_number (Some n) is made = let same : (upper name, n) ≡ item = cc in subst (λ (i : Word × ℕ). is_name i.0 ≡ true) same is
+
+    by_test : (b : Bool) → is_name (upper name) ≡ b → cond b (option_map (λ n. (upper name, n)) (fixed_of 9 number)) None ≡ Some item → is_name item.0 ≡ true
+    by_test true is made = by_number (fixed_of 9 number) is made
+    by_test false is made = absurd cc
+item_from_name (name ∷ number ∷ more ∷ parts) item e = absurd cc
+
+item_name : (text : Word) (item : Word × ℕ) → item_of text ≡ Some item → is_name item.0 ≡ true
+unfolding item_of
+item_name text item e = item_from_name _ item e
+
+-- the element that words say is a name
+pub Says_name : (words : List Word) (job : Job) → Says words job → is_name job.element ≡ true
+Says_name words job says =
+    let one : Only item_of (values_of (codes "--amounts") says.pairs) (Some (job.element, job.amount)) = only item_of _ _ says.asked.amount in
+    item_name one.element (job.element, job.amount) one.gives

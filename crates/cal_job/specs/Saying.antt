@@ -2,6 +2,7 @@
 use Rattle.std.specs.Prelude.{◌≡◌, ℕ, ◌^◌, ◌≤◌, List, [], ◌∷◌, map, filter, codes, Bool, true, false, not, ◌&&◌, ◌==◌, string_bytes, Some}
 use Rattle.std.specs.List.{list_all, list_any}
 use Rattle.tdb_scan.specs.Words.{same_word}
+use Rattle.cef_core.specs.Lattices.{is_lattice}
 use Rattle.cal_job.specs.declared.job.Job.{Job}
 use Rattle.cal_job.specs.Forms.{fixed_of, item_of}
 
@@ -31,12 +32,6 @@ spelling (pair ∷ pairs) = pair.0 ∷ pair.1 ∷ spelling pairs
 -- the values behind an option
 unfoldable pub values_of : Word → List (Word × Word) → List Word
 values_of option pairs = map (λ pair. pair.1) (filter (λ pair. same_word pair.0 option) pairs)
-
-abbrev pub lattices : List ℕ
-lattices = 10 ∷ 20 ∷ 25 ∷ 40 ∷ 50 ∷ 100 ∷ 125 ∷ 200 ∷ 250 ∷ 500 ∷ 1000 ∷ []
-
-abbrev pub is_lattice : ℕ → Bool
-is_lattice n = list_any (λ lattice. n == lattice) lattices
 
 -- the ranges of the numbers of a job: 1 to 6000 K, 0.001 to 1000 mol, a listed lattice, 0.000001 to 1000000 J/mol, 0 to 2^40 splits
 pub record InRange (job : Job) : Type 0 where

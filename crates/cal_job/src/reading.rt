@@ -3,7 +3,9 @@ ghost use Rattle.std.specs.List.{list_any};
 ghost use Rattle.cal_job.specs.declared.job.Job.{Job};
 ghost use Rattle.cal_job.specs.Forms.{fixed_of, item_of, item_from as item_of_parts};
 ghost use Rattle.cal_job.specs.Pairs.{pairs_of};
-ghost use Rattle.cal_job.specs.Saying.{Word, Says, Asks, InRange, is_lattice as is_listed, values_of};
+ghost use Rattle.cal_job.specs.Saying.{Word, Says, Asks, InRange, values_of};
+ghost use Rattle.tdb_scan.specs.Words.{is_name};
+ghost use Rattle.cef_core.specs.Lattices.{is_lattice as is_listed};
 
 use crate::fault::WordsFault;
 use crate::job::Job;
@@ -164,6 +166,7 @@ fn equilibrium(alloc: Global, words: &[String]) -> Result<Job, WordsFault>
 pub fn read_words(alloc: Global, words: &[String]) -> Result<Job, WordsFault>
     ensures says { IfOk result (λ job. Says (map (λ word. string_bytes word) words.now) job) }
     ensures range { IfOk result (λ job. InRange job) }
+    ensures element { IfOk result (λ job. is_name job.element ≡ true) }
     ensures usage { result ≡ Err WordsFault.Usage → (job : Job) → ¬ Says (map (λ word. string_bytes word) words.now) job }
 {
     match words.split_first() {

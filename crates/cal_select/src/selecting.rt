@@ -1,7 +1,10 @@
 //! Selecting the phases of a system.
 
-ghost use Rattle.std.specs.Prelude.{◌≡◌, ◌≤◌, ◌<◌, ◌*◌, ◌^◌, length, IfOk, All, sum};
+ghost use Rattle.std.specs.Prelude.{◌≡◌, ◌≤◌, ◌<◌, ◌*◌, ◌^◌, length, map, true, IfOk, All, sum};
+ghost use Rattle.std.specs.Bool.{OnTrue};
 ghost use Rattle.std.specs.List.{AllByRecursion};
+ghost use Rattle.tdb_scan.specs.Words.{is_name};
+ghost use Rattle.cef_core.specs.Names.{AreNames};
 ghost use Rattle.cef_core.specs.Pure.{IsPure};
 ghost use Rattle.cal_select.specs.Selection.{is_known, greatest_ratio, phases_at, Selects};
 
@@ -13,7 +16,8 @@ use std::alloc::{AllocError, Global};
 use tdb_read::Db;
 
 fn is_known_element(db: &Db, element: &Name) -> bool
-    ensures { result ≡ is_known db.now element.now }
+    ensures known { result ≡ is_known db.now element.now }
+    ensures name { OnTrue result (is_name element.now ≡ true) }
 {
     element.bytes() != b"VA".as_slice() && db.has_element(element)
 }
@@ -29,6 +33,7 @@ fn select(
     requires { t ≤ 600000 }
     ensures value { IfOk result (λ phases. phases ≡ phases_at db.now element.now t lattice) }
     ensures pure { IfOk result (λ phases. AllByRecursion (IsPure lattice) phases) }
+    ensures names { IfOk result (λ phases. 0 < length phases → AreNames (map (λ phase. phase.name) phases)) }
 {
     let mut phases = Items::new(alloc);
     'places: for place in 0..db.phase_count() {
@@ -74,6 +79,8 @@ pub fn system(
     requires { t ≤ 600000 }
     ensures selects { Selects db.now element.now t lattice result }
     ensures pure { IfOk result (λ system. All (IsPure lattice) system.phases) }
+    ensures elements { IfOk result (λ system. AreNames system.elements) }
+    ensures phases { IfOk result (λ system. AreNames (map (λ phase. phase.name) system.phases)) }
 {
     if !is_known_element(db, element) {
         return Err(SystemFault::UnknownElement(element.copy()?));

@@ -9,6 +9,7 @@ use Rattle.cef_core.specs.declared.system.System.{System}
 use Rattle.cef_core.specs.declared.report.Report.{Report}
 use Rattle.cef_core.specs.Holding.{Holds}
 use Rattle.cef_core.specs.Certificates.{IsCertified}
+use Rattle.cef_core.specs.Spelled.{IsSpelled}
 use Rattle.cef_core.specs.Texts.{text}
 use Rattle.tdb_read.specs.Database.{Database}
 use Rattle.tdb_read.specs.Folding.{fault_of, database_of}
@@ -28,13 +29,14 @@ abbrev pub system_for : Database → Job → System
 system_for db job = system_of db job.element job.t job.lattice
 
 -- The text is that of one report, which holds for the system and what is asked of it, with its certificate for the asked
--- gap. Each tree is one leaf with the multiplier 0.
+-- gap. Each tree is one leaf with the multiplier 0, and the report is within the limits of texts.
 pub record AnswersSystem (system : System) (job : Job) (printed : List ℕ) : Type 0 where
   pub report : Report
   pub printed_is : printed ≡ text report
   pub holds : Holds system (asked_of job) report
   pub certified : IsCertified system job.gap report
   pub trees : report.trees ≡ replicate (length system.phases) single_leaf
+  pub spelled : IsSpelled report
 
 -- the element is known, a phase holds it, and the text is that of an equilibrium of its system
 pub record IsEquilibrium (db : Database) (job : Job) (printed : List ℕ) : Type 0 where

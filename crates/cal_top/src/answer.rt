@@ -2,6 +2,7 @@
 
 ghost use Rattle.std.specs.Prelude.{◌≡◌, ◌<◌, ◌≤◌, ◌*◌, ◌^◌, ◌++◌, ◌∷◌, [], IfOk, length, map, string_bytes, All, pos, replicate};
 ghost use Rattle.cef_core.specs.declared.report.Report.{Report};
+ghost use Rattle.cef_core.specs.Names.{AreNames};
 ghost use Rattle.cef_core.specs.Pure.{IsPure};
 ghost use Rattle.cef_core.specs.Holding.{Holds};
 ghost use Rattle.cef_core.specs.Certificates.{IsCertified};
@@ -69,6 +70,9 @@ fn answer_system(alloc: Global, job: &Job, system: &System) -> Result<Reply, All
     requires one_element { length system.now.elements ≡ 1 }
     requires some_phase { 0 < length system.now.phases }
     requires pure { All (IsPure job.now.lattice) system.now.phases }
+    requires temperature { system.now.t ≡ job.now.t }
+    requires elements { AreNames system.now.elements }
+    requires phases { AreNames (map (λ phase. phase.name) system.now.phases) }
     ensures status { IfOk result (λ reply. reply.status ≡ Status.Done) }
     ensures report { IfOk result (λ reply. AnswersSystem system.now job.now reply.text.items) }
 {

@@ -17,7 +17,7 @@ use Rattle.eq_solve.proofs.Least.{pure_at}
 use Rattle.eq_solve.proofs.BelowPlane.{IsAbove-from_best}
 
 -- what the plane leaves of the energy is not below 0
-left_low : (c g : ℤ) (asked margin : ℤ) (f : Figures) → AreNumbers c g asked margin f → pos 0 ≤ℤ (pos 65536 *ℤ f.energy -ℤ f.potential *ℤ f.total)
+pub left_low : (c g : ℤ) (asked margin : ℤ) (f : Figures) → AreNumbers c g asked margin f → pos 0 ≤ℤ (pos 65536 *ℤ f.energy -ℤ f.potential *ℤ f.total)
 left_low c g asked margin f numbers =
     let times : (f.amount *ℤ (c *ℤ f.potential)) ≤ℤ (f.amount *ℤ (pos 65536 *ℤ g)) = *ℤ-≤ f.amount _ _ (omega (arith, ints, numbers.some)) numbers.below in
     let energy : pos 65536 *ℤ f.energy ≡ f.amount *ℤ (pos 65536 *ℤ g) = rw numbers.energy_is (*ℤ_left (pos 65536) f.amount g) in
@@ -26,7 +26,7 @@ left_low c g asked margin f numbers =
     omega (arith, ints, times, energy, value)
 
 -- it is at most the total times the margin and one
-left_high : (c g : ℤ) (asked margin : ℤ) (f : Figures) → AreNumbers c g asked margin f → (pos 65536 *ℤ f.energy -ℤ f.potential *ℤ f.total) ≤ℤ (f.total *ℤ (margin +ℤ pos 1))
+pub left_high : (c g : ℤ) (asked margin : ℤ) (f : Figures) → AreNumbers c g asked margin f → (pos 65536 *ℤ f.energy -ℤ f.potential *ℤ f.total) ≤ℤ (f.total *ℤ (margin +ℤ pos 1))
 left_high c g asked margin f numbers =
     let near : (pos 65536 *ℤ g) ≤ℤ (c *ℤ (f.potential +ℤ margin) +ℤ c) = omega (arith, ints, numbers.close) in
     let times : (f.amount *ℤ (pos 65536 *ℤ g)) ≤ℤ (f.amount *ℤ (c *ℤ (f.potential +ℤ margin) +ℤ c)) = *ℤ-≤ f.amount _ _ (omega (arith, ints, numbers.some)) near in

@@ -4,3 +4,4 @@ pub mod Energies
 pub mod BelowPlane
 pub mod Holding
 pub mod Certified
+pub mod Spelling

@@ -1,5 +1,5 @@
 -- The numbers of a report of one entry.
-use Rattle.std.specs.Prelude.{◌≡◌, ℕ, ◌*◌, List, Some, slice_get, ℤ, pos, ◌+ℤ◌, ◌-ℤ◌, ◌*ℤ◌, ◌≤ℤ◌, ◌<ℤ◌}
+use Rattle.std.specs.Prelude.{◌≡◌, ℕ, ◌*◌, ◌^◌, ◌≤◌, List, Some, slice_get, ℤ, pos, unsigned_abs, ◌+ℤ◌, ◌-ℤ◌, ◌*ℤ◌, ◌≤ℤ◌, ◌<ℤ◌}
 use Rattle.cef_core.specs.declared.phase.PhaseAt.{PhaseAt}
 use Rattle.cef_core.specs.Pure.{ratio_of, reference_of}
 use Rattle.eq_solve.specs.Comparing.{IsNoHigher}
@@ -9,12 +9,14 @@ use Rattle.eq_solve.specs.declared.figures.Figures.{Figures}
 -- less than one more
 pub record AreNumbers (content reference asked margin : ℤ) (f : Figures) : Type 0 where
   pub some : pos 1 ≤ℤ f.amount
+  pub amount_high : f.amount ≤ℤ pos (2 ^ 50)
   pub total_is : f.total ≡ content *ℤ f.amount
   pub total_low : pos 0 ≤ℤ f.total
   pub total_high : f.total ≤ℤ asked
   pub energy_is : f.energy ≡ f.amount *ℤ reference
   pub below : (content *ℤ f.potential) ≤ℤ (pos 65536 *ℤ reference)
   pub close : (pos 65536 *ℤ reference) <ℤ (content *ℤ (f.potential +ℤ margin) +ℤ content)
+  pub potential_size : unsigned_abs f.potential ≤ 2 ^ 72
   pub gap_allowed : (pos 65536 *ℤ f.energy -ℤ f.potential *ℤ f.total) ≤ℤ (pos 65536 *ℤ f.gap)
   pub gap_least : (pos 65536 *ℤ f.gap) <ℤ (pos 65536 *ℤ f.energy -ℤ f.potential *ℤ f.total +ℤ pos 65536)
 

@@ -1,5 +1,8 @@
-ghost use Rattle.std.specs.Prelude.{◌≡◌, ◌<◌, ◌≤◌, ◌*◌, ◌^◌, ◌∷◌, [], IfOk, length, All, replicate, pos, ◌≤ℤ◌};
+ghost use Rattle.std.specs.Prelude.{◌≡◌, ◌<◌, ◌≤◌, ◌*◌, ◌^◌, ◌∷◌, [], IfOk, length, map, true, All, replicate, pos, ◌≤ℤ◌};
 ghost use Rattle.cef_core.specs.Holding.{Holds};
+ghost use Rattle.cef_core.specs.Lattices.{is_lattice};
+ghost use Rattle.cef_core.specs.Names.{AreNames};
+ghost use Rattle.cef_core.specs.Spelled.{IsSpelled};
 ghost use Rattle.cef_core.specs.Certificates.{IsCertified};
 ghost use Rattle.cef_core.specs.Pure.{IsPure};
 ghost use Rattle.eq_solve.specs.Reporting.{single_leaf};
@@ -12,6 +15,7 @@ use std::alloc::{AllocError, Global};
 
 /// The equilibrium of one element between pure phases, for the asked total in units of 1/N nmol and the asked gap in µJ
 /// per mol of components: a whole amount of the phase of least energy for its content.
+#[tactic(auto, using(crate::proofs::Spelling::lattice_within))]
 pub fn equilibrium(
     alloc: Global,
     system: &System,
@@ -21,14 +25,18 @@ pub fn equilibrium(
     requires one_element { length system.now.elements ≡ 1 }
     requires some_phase { 0 < length system.now.phases }
     requires pure { All (IsPure system.now.lattice) system.now.phases }
-    requires lattice_low { 1 ≤ system.now.lattice }
-    requires lattice_high { system.now.lattice ≤ 1000 }
+    requires temperature_low { 100 ≤ system.now.t }
+    requires temperature_high { system.now.t ≤ 600000 }
+    requires lattice { is_lattice system.now.lattice ≡ true }
+    requires elements { AreNames system.now.elements }
+    requires phases { AreNames (map (λ phase. phase.name) system.now.phases) }
     requires asked_low { pos (100 * system.now.lattice) ≤ℤ asked }
     requires asked_high { asked ≤ℤ pos (2 ^ 50) }
     requires gap_low { 1 ≤ gap }
     requires gap_high { gap ≤ 10 ^ 12 }
     ensures holds { IfOk result (λ r. Holds system.now (asked ∷ []) r) }
     ensures certified { IfOk result (λ r. IsCertified system.now gap r) }
+    ensures spelled { IfOk result (λ r. IsSpelled r) }
     ensures trees { IfOk result (λ r. r.trees ≡ replicate (length system.now.phases) single_leaf) }
 {
     let margin = i128::from(margin_of(gap, system.lattice));

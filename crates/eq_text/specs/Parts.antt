@@ -1,5 +1,5 @@
 -- The parts of a report's text.
-use Rattle.std.specs.Prelude.{◌≡◌, ℕ, ◌<◌, List, [], ◌∷◌, length, map, All, codes}
+use Rattle.std.specs.Prelude.{ℕ, List, [], ◌∷◌, length, map, codes}
 use Rattle.std.specs.List.{concat}
 use Rattle.std.specs.Fmt.{decimal, signed_decimal}
 use Rattle.cef_core.specs.declared.entry.Entry.{Entry}
@@ -46,8 +46,3 @@ trees_text phases trees = concat (tree_lines phases trees)
 
 unfoldable pub end_text : List ℕ
 end_text = line (codes "end" ∷ [])
-
--- each entry names a phase by its place, and each phase has a tree
-pub record IsWritable (r : Report) : Type 0 where
-  pub phases : All (λ entry. entry.phase < length r.phases) r.entries
-  pub trees : length r.trees ≡ length r.phases

@@ -1,9 +1,11 @@
-//! The text of a report.
+//! The text of a report, written and read.
 #![tactic(auto)]
 
-mod entry;
-mod line;
-mod report;
-mod tree;
+mod read;
+#[cfg(test)]
+mod tests;
+mod write;
 
-pub use report::write_report;
+pub use cal_lines::TextFault;
+pub use read::read_report;
+pub use write::write_report;

@@ -1,9 +1,9 @@
 -- What a database holds: entries by name or key, in the order in which each was entered first.
-use Rattle.std.specs.Prelude.{ℕ, ◌&&◌, List, [], Bool, nat_eq, Option}
-use Rattle.std.specs.Cmp.Lexicographic.{pointwise}
+use Rattle.std.specs.Prelude.{ℕ, ◌&&◌, List, [], Bool, Option}
 use Rattle.std.specs.Map.{lookup}
 use Rattle.std.specs.Option.{option_map}
 use Rattle.indexmap.specs.IndexMap.{insert_entry}
+use Rattle.cef_core.specs.Names.{same_name}
 use Rattle.tdb_read.specs.declared.key.Key.{Key}
 use Rattle.tdb_read.specs.declared.phase.PhaseText.{PhaseText}
 use Rattle.tdb_read.specs.declared.parameter.ParamText.{ParamText}
@@ -18,9 +18,6 @@ database_with elements phases parameters = record { elements = elements; phases 
 
 abbrev pub empty : Database
 empty = database_with [] [] []
-
-abbrev pub same_name : List ℕ → List ℕ → Bool
-same_name a b = pointwise nat_eq a b
 
 abbrev pub same_key : Key → Key → Bool
 same_key a b = same_name a.phase b.phase && same_name a.constituent b.constituent

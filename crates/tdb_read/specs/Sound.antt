@@ -22,5 +22,6 @@ pub record IsParameter (text : ParamText) : Type 0 where
   pub slope : unsigned_abs text.slope < 10 ^ 6
 
 pub record IsSound (d : Database) : Type 0 where
+  pub elements : AllByRecursion (λ e. is_name e.0 ≡ true) d.elements
   pub phases : AllByRecursion (λ e. (is_name e.0 ≡ true) × IsPhase e.1) d.phases
   pub parameters : AllByRecursion (λ e. IsParameter e.1) d.parameters

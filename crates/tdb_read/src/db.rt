@@ -1,9 +1,11 @@
 ghost use Rattle.std.specs.Prelude.{◌≡◌, ◌<◌, IfOk, IfSome, Some, true, length, is_some, slice_get};
-ghost use Rattle.std.specs.List.{IsDistinct};
+ghost use Rattle.std.specs.Bool.{OnTrue};
+ghost use Rattle.std.specs.List.{AllByRecursion, IsDistinct};
 ghost use Rattle.std.specs.Map.{lookup, keys_of};
 ghost use Rattle.std.specs.Option.{option_copied};
 ghost use Rattle.tdb_scan.specs.Words.{is_name};
-ghost use Rattle.tdb_read.specs.Database.{Database, empty, same_name, same_key, with_element, with_phase, with_sites, with_parameter};
+ghost use Rattle.cef_core.specs.Names.{same_name};
+ghost use Rattle.tdb_read.specs.Database.{Database, empty, same_key, with_element, with_phase, with_sites, with_parameter};
 ghost use Rattle.tdb_read.specs.Sound.{AreSites, IsPhase, IsParameter};
 
 use crate::key::Key;
@@ -47,13 +49,15 @@ impl Db {
     }
 
     pub fn has_element(&self, name: &Name) -> bool
-        ensures { result ≡ is_some (lookup (same_name name.now) self.now.elements) }
+        ensures known { result ≡ is_some (lookup (same_name name.now) self.now.elements) }
+        ensures name { OnTrue result (is_name name.now ≡ true) }
     {
         self.elements.contains_key(name)
     }
 
     pub fn phase_count(&self) -> usize
         ensures count { result ≡ length self.now.phases }
+        ensures names { AllByRecursion (λ name. is_name name ≡ true) (keys_of self.now.phases) }
         ensures distinct { IsDistinct same_name (keys_of self.now.phases) }
     {
         self.phases.len()
@@ -77,6 +81,7 @@ impl Db {
     }
 
     pub(crate) fn enter_element(self, name: Name, line: u32) -> Result<Db, AllocError>
+        requires { is_name name ≡ true }
         ensures { IfOk result (λ d. d ≡ with_element self name line) }
     {
         let Db {

@@ -18,6 +18,7 @@ use tdb_scan::{before, behind, is_name_word, is_whole_number, is_word, whole};
 
 fn name(alloc: Global, token: &[u8]) -> Result<Option<Name>, AllocError>
     ensures value { IfOk result (λ o. o ≡ name_of token.now) }
+    ensures name { IfOk result (λ o. IfSome o (λ name. is_name name ≡ true)) }
 {
     if !is_name_word(token) {
         return Ok(None);
@@ -28,7 +29,8 @@ fn name(alloc: Global, token: &[u8]) -> Result<Option<Name>, AllocError>
 /// `ELEMENT name`, and anything.
 #[tactic(auto, unfolding(crate::specs::Forms::element_of))]
 pub fn element(alloc: Global, args: &[&[u8]]) -> Result<Option<Name>, AllocError>
-    ensures { IfOk result (λ o. o ≡ element_of (map (λ w. w.now) args.now)) }
+    ensures value { IfOk result (λ o. o ≡ element_of (map (λ w. w.now) args.now)) }
+    ensures name { IfOk result (λ o. IfSome o (λ name. is_name name ≡ true)) }
 {
     match args {
         [] => Ok(None),

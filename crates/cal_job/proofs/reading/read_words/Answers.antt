@@ -1,7 +1,7 @@
 use Rattle.std.proofs.Common.{rules, ◌≡◌, ◌∷◌, List, string_bytes, map, true, false, codes, sym, ap, subst}
 use Rattle.tdb_scan.specs.Words.{same_word}
 use Rattle.cal_job.specs.Saying.{Word, Says}
-use Rattle.cal_job.proofs.Commands.{other_command, command_is}
+use Rattle.cal_job.proofs.Commands.{other_command, command_is, Says_name}
 use Rattle.cal_job.proofs.reading.read_words.Goals as goal
 
 pub returns-then-not-is_word-clause-usage : goal.returns-then-not-is_word-clause-usage
@@ -26,3 +26,6 @@ returns-in_ok-job-in-Some-clause-says c =
     let on : true ≡ same_word (string_bytes c.in-Some.command.now) (codes "equilibrium") = search rules in
     let is : map (λ word. string_bytes word) c.args.words.now ≡ codes "equilibrium" ∷ map (λ word. string_bytes word) c.in-Some.rest.now = command_is _ _ (string_bytes c.in-Some.command.now) (ap (map (λ word. string_bytes word)) split) on in
     subst (λ (words : List Word). Says words c.in_ok-job-in-Some.job) (sym is) c.in_ok-job-in-Some.ensures.says
+
+pub returns-in_ok-job-in-Some-clause-element : goal.returns-in_ok-job-in-Some-clause-element
+returns-in_ok-job-in-Some-clause-element c = Says_name _ c.in_ok-job-in-Some.job c.in_ok-job-in-Some.ensures.says

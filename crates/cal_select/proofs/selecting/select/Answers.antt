@@ -1,7 +1,8 @@
-use Rattle.std.proofs.Common.{◌≡◌, ◌++◌, ◌∷◌, [], sym, ap, ◌∙◌, true, false}
+use Rattle.std.proofs.Common.{◌≡◌, ◌++◌, ◌∷◌, ◌≤◌, [], length, arith, sym, ap, ◌∙◌, true, false}
 use Rattle.cef_core.specs.Pure.{IsPure}
 use Rattle.cal_select.specs.Selection.{phase_at, qualifies}
 use Rattle.cal_select.proofs.Taken.{kept-next, left_out-next, AllByRecursion-append}
+use Rattle.cal_select.proofs.Named.{are_passed_names}
 use Rattle.cal_select.proofs.selecting.select.Goals as goal
 use Rattle.cal_select.proofs.selecting.select.Goals.{then-is_of+in_ok-phase+in_ok-push, else-is_of}
 
@@ -23,3 +24,9 @@ places-preserved c =
             pure = c.places.invariant.pure;
           })
     ]
+
+pub returns-clause-names : goal.returns-clause-names
+returns-clause-names c =
+    let db = c.args.db.now in
+    let passed : length db.phases ≤ c.places.place = omega (arith, c.places-test.false, c.phase_count-place-end.ensures.count) in
+    are_passed_names db c.args.element.now c.args.t c.args.lattice c.places.place c.places.phases passed c.phase_count-place-end.ensures.names c.phase_count-place-end.ensures.distinct c.places.invariant.selected

@@ -86,12 +86,14 @@ returns-clause-numbers c =
     let least = simp to_z-of_z at c.gap_of-gap.ensures.least in
     simp to_z-of_z (record {
       some = c.amount_of-amount.ensures.some;
+      amount_high = c.amount_of-amount.ensures.high;
       total_is = total_is;
       total_low = rw total_is (total_low c.args.content c.amount_of-amount.result c.requires.content_low c.amount_of-amount.ensures.some);
       total_high = rw total_is within;
       energy_is = simp to_z-of_z at c.product-energy.ensures;
       below = simp to_z-of_z at c.potential_of-potential.ensures.below;
       close = simp to_z-of_z at c.potential_of-potential.ensures.close;
+      potential_size = c.potential_of-potential.ensures.size;
       gap_allowed = rw (← is_value) allowed;
       gap_least = rw (← is_value) least;
     })

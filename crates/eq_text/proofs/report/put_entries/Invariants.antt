@@ -1,9 +1,0 @@
-use Rattle.std.proofs.Common.{◌≡◌, ◌++◌, ◌∷◌, [], take, length}
-use Rattle.std.specs.Prelude.{codes}
-use Rattle.std.specs.Fmt.{decimal}
-use Rattle.std.specs.List.{flat_map}
-use Rattle.cef_core.specs.Texts.{line, entry_words}
-use Rattle.eq_text.proofs.report.put_entries.Given as goal
-
-abbrev pub invariant-entries : goal.invariant-entries
-invariant-entries l = l.out.items ≡ l.fn.out.items ++ line (codes "entries" ∷ decimal (length l.fn.entries) ∷ []) ++ flat_map (λ entry. line (entry_words l.phases entry)) (take l.entry-index l.entries)

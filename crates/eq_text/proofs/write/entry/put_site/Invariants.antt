@@ -1,0 +1,7 @@
+use Rattle.std.proofs.Common.{◌≡◌, ◌++◌, take}
+use Rattle.cef_core.specs.Texts.{counts_words}
+use Rattle.eq_text.specs.Spacing.{spelled}
+use Rattle.eq_text.proofs.write.entry.put_site.Given as goal
+
+abbrev pub invariant-places : goal.invariant-places
+invariant-places l = l.out.items ≡ l.fn.out.items ++ spelled (counts_words (take l.place l.site))
