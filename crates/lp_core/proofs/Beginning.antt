@@ -25,7 +25,7 @@ use Rattle.lp_stage.specs.declared.stage.Stage.{Stage}
 use Rattle.lp_stage.proofs.Improvement.{amounts_get}
 use Rattle.lp_core.specs.Fitting.{widest, dearest, HasRoom, Fits}
 use Rattle.lp_core.specs.Starts.{CanRun}
-use Rattle.lp_core.specs.Phases.{CanBegin, IsBegun, MeetsTarget}
+use Rattle.lp_core.specs.FirstPhase.{CanBegin, IsBegun, MeetsTarget}
 use Rattle.lp_core.proofs.Extents.{sum-le_widest, one-le_widest}
 use Rattle.lp_core.proofs.Starts.{IsUnit-unit_at}
 use Rattle.lp_core.proofs.Runs.{target_sum, room_is}

@@ -3,7 +3,7 @@ use Rattle.std.proofs.Common.{◌≡◌, ℕ, zero, suc, ◌-◌, ◌*◌, ◌^�
 use Rattle.std.specs.Prelude.{ℤ, pos, ◌≤ℤ◌, ◌+ℤ◌, ◌*ℤ◌, Option, Some, None, All, unsigned_abs}
 use Rattle.std.proofs.lemmas.Int.{ints}
 use Rattle.cal_math.specs.Whole.{*ℤ-+ℤ, *ℤ-≤}
-use Rattle.lp_laws.proofs.Sums.{sum-same, sum-add, sum-zero, dot_same, dot-scale}
+use Rattle.lp_laws.proofs.Sums.{times_zero, sum-same, sum-add, sum-zero, dot_same, dot-scale}
 use Rattle.lp_laws.proofs.Exchange.{one-le-*ℤ}
 use Rattle.lp_laws.proofs.Idle.{price_above}
 use Rattle.lp_laws.proofs.Reduced.{reduced_potential-le}
@@ -18,11 +18,8 @@ use Rattle.lp_stage.specs.declared.stage.Stage.{Stage}
 use Rattle.lp_stage.proofs.Improvement.{amounts_get}
 use Rattle.lp_core.specs.Fitting.{widest}
 use Rattle.lp_core.specs.Plans.{Weight, given, IsFeasible, IsProofOfNone}
-use Rattle.lp_core.specs.Phases.{IsFirstEnd, HasUnit}
+use Rattle.lp_core.specs.FirstPhase.{IsFirstEnd, HasUnit}
 use Rattle.lp_core.proofs.Beginning.{cost_small_first}
-
-times_zero : (a : ℤ) → a *ℤ pos 0 ≡ pos 0
-times_zero a = omega (arith, ints)
 
 dot-plus : (n : ℕ) (v x y : ℕ → ℤ) → dot n v (λ c. x c +ℤ y c) ≡ dot n v x +ℤ dot n v y
 unfolding dot

@@ -20,7 +20,7 @@ use Rattle.lp_stage.specs.declared.stage.Stage.{Stage}
 use Rattle.lp_core.specs.Fitting.{widest, dearest}
 use Rattle.lp_core.specs.Ends.{met_by, IsLast}
 use Rattle.lp_core.specs.Starts.{CanRun, HasRun}
-use Rattle.lp_core.specs.Seconds.{met_with, KillsAll, MeetsAll, CanFollow, IsReady}
+use Rattle.lp_core.specs.SecondPhase.{met_with, KillsAll, MeetsAll, CanFollow, IsReady}
 use Rattle.lp_core.proofs.Beginning.{second_phase, fine_at}
 
 is_none : (o : Option ℕ) → (o ≡ None) ⊎ ((k : ℕ) × (o ≡ Some k))

@@ -2,6 +2,6 @@ pub mod Fitting
 pub mod Plans
 pub mod Ends
 pub mod Starts
-pub mod Phases
-pub mod Seconds
+pub mod FirstPhase
+pub mod SecondPhase
 pub mod Weights

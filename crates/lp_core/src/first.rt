@@ -2,7 +2,7 @@ ghost use Rattle.std.specs.Prelude.{◌≡◌, ◌<◌, ℕ, suc, length, None, 
 ghost use Rattle.std.specs.Bool.{OnTrue, OnFalse};
 ghost use Rattle.lp_core.specs.Fitting.{Fits};
 ghost use Rattle.lp_core.specs.Ends.{met_by};
-ghost use Rattle.lp_core.specs.Phases.{CanBegin, IsBegun, IsFirstEnd, MeetsTarget, HasUnit, HasNoUnit};
+ghost use Rattle.lp_core.specs.FirstPhase.{CanBegin, IsBegun, IsFirstEnd, MeetsTarget, HasUnit, HasNoUnit};
 
 use crate::start::run;
 use lp_basis::{Column, Row, product, units};

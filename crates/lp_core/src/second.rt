@@ -1,7 +1,7 @@
 ghost use Rattle.std.specs.Prelude.{◌≡◌, ◌+◌, ◌<◌, ℕ, ℤ, List, length, suc, IfOk};
 ghost use Rattle.lp_basis.specs.Held.{numbers_at};
 ghost use Rattle.lp_core.specs.Ends.{IsLast};
-ghost use Rattle.lp_core.specs.Seconds.{met_with as product_with, MeetsAll, IsMeeting, IsEntrant, CanFollow, IsReady};
+ghost use Rattle.lp_core.specs.SecondPhase.{met_with as product_with, MeetsAll, IsMeeting, IsEntrant, CanFollow, IsReady};
 
 use crate::start::run;
 use lp_basis::{Column, Row, product};

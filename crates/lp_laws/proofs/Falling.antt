@@ -4,7 +4,7 @@ use Rattle.std.specs.Prelude.{ℤ, pos, ◌-ℤ◌, ◌*ℤ◌, ◌≤ℤ◌, �
 use Rattle.std.proofs.lemmas.Int.{ints, by_lt_z}
 use Rattle.std.proofs.lemmas.Bool.{cases_eq}
 use Rattle.cal_math.specs.Whole.{*ℤ--ℤ, *ℤ_comm, *ℤ-≤}
-use Rattle.lp_laws.proofs.Sums.{sum-zero, sum-le, dot_same, dot_difference}
+use Rattle.lp_laws.proofs.Sums.{times_zero, sum-zero, sum-le, dot_same, dot_difference}
 use Rattle.lp_laws.proofs.Exchange.{one-le-*ℤ}
 use Rattle.lp_laws.proofs.Fraction.{Common, common, expanded}
 use Rattle.lp_laws.proofs.Unique.{kills_all, only_place}
@@ -12,9 +12,6 @@ use Rattle.lp_laws.proofs.Lexicographic.{IsLexAbove-scale, IsLexAbove-sum, IsLex
 use Rattle.lp_laws.specs.Vectors.{dot}
 use Rattle.lp_laws.specs.Bases.{IsBasis}
 use Rattle.lp_laws.specs.Orders.{IsLexAbove}
-
-times_zero : (a : ℤ) → a *ℤ pos 0 ≡ pos 0
-times_zero a = omega (arith, ints)
 
 -- two rows have no two lists in one ratio: P times the one less q times the other kills not all starting columns
 pub no_tie : (n m m0 : ℕ) (columns rows : ℕ → ℕ → ℤ) (own : ℕ → ℤ) (columns0 rows0 : ℕ → ℕ → ℤ) (own0 : ℕ → ℤ) → IsBasis n m columns rows own → IsBasis n m0 columns0 rows0 own0 →

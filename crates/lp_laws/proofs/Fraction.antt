@@ -7,7 +7,7 @@ use Rattle.std.proofs.lemmas.Int.{ints, by_lt_z}
 use Rattle.std.proofs.lemmas.Bool.{cases_eq}
 use borrow.Author.Differences.{up, down}
 use Rattle.cal_math.specs.Whole.{*ℤ-+ℤ, *ℤ--ℤ, *ℤ_comm, *ℤ_assoc, *ℤ-≤, floor-le, lt-floor}
-use Rattle.lp_laws.proofs.Sums.{sum-scale, sum-sub, sum-zero, sum-le, dot-sub, dot-scale, dot_basis}
+use Rattle.lp_laws.proofs.Sums.{times_zero, sum-scale, sum-sub, sum-zero, sum-le, dot-sub, dot-scale, dot_basis}
 use Rattle.lp_laws.proofs.Exchange.{one-le-*ℤ}
 use Rattle.lp_laws.specs.Vectors.{sum_to, dot}
 use Rattle.lp_laws.specs.Bases.{IsBasis}
@@ -241,6 +241,3 @@ highs_some n m columns rows own basis c lt h =
     let zero_is : sum_to m (λ j. (all.parts j *ℤ dot n (rows j) (λ k. pos 1)) *ℤ columns j c) ≡ pos 0 =
     sum-zero m (λ j. (all.parts j *ℤ dot n (rows j) (λ k. pos 1)) *ℤ columns j c) (λ j less. ap (λ (z : ℤ). (all.parts j *ℤ dot n (rows j) (λ k. pos 1)) *ℤ z) (highs_zero m columns c e j less (h j less)) ∙ times_zero (all.parts j *ℤ dot n (rows j) (λ k. pos 1))) in
     absurd (omega (arith, ints, sum_is, zero_is, all.is.some)))
-  where
-    times_zero : (a : ℤ) → a *ℤ pos 0 ≡ pos 0
-    times_zero a = omega (arith, ints)

@@ -4,15 +4,12 @@ use Rattle.std.specs.Prelude.{ℤ, pos, negsuc, ◌⊎◌, ◌-ℤ◌, ◌*ℤ�
 use Rattle.std.proofs.lemmas.Int.{ints}
 use Rattle.std.proofs.lemmas.Bool.{cases_eq}
 use Rattle.cal_math.specs.Whole.{*ℤ--ℤ, *ℤ-≤}
-use Rattle.lp_laws.proofs.Sums.{sum-same, sum-le, sum-zero, dot_same, dot-scale, dot-combined, dot_basis}
+use Rattle.lp_laws.proofs.Sums.{times_zero, sum-same, sum-le, sum-zero, dot_same, dot-scale, dot-combined, dot_basis}
 use Rattle.lp_laws.proofs.Exchange.{zero_from_product, one_from_product, one-le-*ℤ}
 use Rattle.lp_laws.proofs.Fraction.{Common, common, expanded}
 use Rattle.lp_laws.proofs.Unique.{only_place}
 use Rattle.lp_laws.specs.Vectors.{sum_to, dot}
 use Rattle.lp_laws.specs.Bases.{IsBasis, IsPriced}
-
-times_zero : (a : ℤ) → a *ℤ pos 0 ≡ pos 0
-times_zero a = omega (arith, ints)
 
 zero_times : (a : ℤ) → pos 0 *ℤ a ≡ pos 0
 zero_times a = omega (arith, ints)

@@ -5,6 +5,7 @@ use Rattle.std.proofs.lemmas.Int.{ints}
 use Rattle.std.proofs.lemmas.Bool.{cases_eq, cases_lt}
 use Rattle.std.proofs.Math.Nat.{mul-le-mul_right}
 use Rattle.cal_math.specs.Whole.{*ℤ--ℤ, *ℤ_left}
+use Rattle.lp_laws.proofs.Sums.{times_zero}
 use Rattle.lp_laws.proofs.Pigeon.{code}
 use Rattle.lp_laws.proofs.Exchange.{zero_from_product, one_from_product, one-le-*ℤ}
 use Rattle.lp_laws.specs.Orders.{IsLexAbove}
@@ -33,9 +34,6 @@ pub data LexCases (size : ℕ) (f : ℕ → ℤ) : Type 0 where
   all_zero : ((c : ℕ) → c < size → f c ≡ pos 0) → LexCases size f
   lex_above : IsLexAbove size f → LexCases size f
   lex_below : IsLexAbove size (λ c. pos 0 -ℤ f c) → LexCases size f
-
-times_zero : (a : ℤ) → a *ℤ pos 0 ≡ pos 0
-times_zero a = omega (arith, ints)
 
 pub IsLexAbove-scale : (size : ℕ) (a : ℤ) (f h : ℕ → ℤ) → pos 1 ≤ℤ a → IsLexAbove size f → ((c : ℕ) → c < size → h c ≡ a *ℤ f c) → IsLexAbove size h
 IsLexAbove-scale size a f h p u is = record {

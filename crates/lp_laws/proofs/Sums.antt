@@ -7,6 +7,9 @@ use Rattle.cal_math.specs.Whole.{*ℤ-+ℤ, *ℤ--ℤ, *ℤ_comm, *ℤ_left}
 use Rattle.lp_laws.specs.Vectors.{sum_to, dot}
 use Rattle.lp_laws.specs.Bases.{IsBasis}
 
+pub times_zero : (a : ℤ) → a *ℤ pos 0 ≡ pos 0
+times_zero a = omega (arith, ints)
+
 pub sum-same : (n : ℕ) (f g : ℕ → ℤ) → ((i : ℕ) → i < n → f i ≡ g i) → sum_to n f ≡ sum_to n g
 sum-same zero f g h = refl
 sum-same (suc n) f g h = rw (sum-same n f g (λ i lt. h i (omega arith)), h n (omega arith))
@@ -90,16 +93,10 @@ pub dot_basis : (n m : ℕ) (columns rows : ℕ → ℕ → ℤ) (own a : ℕ �
     dot n (rows l) (λ c. sum_to m (λ j. a j *ℤ columns j c)) ≡ a l *ℤ own l
 dot_basis n m columns rows own a basis l lt =
     dot-combined n m (rows l) a columns
-    ∙ sum-one m l (λ j. a j *ℤ dot n (rows l) (columns j)) lt (λ j less ne. ap (λ (z : ℤ). a j *ℤ z) (basis.kills l j lt less (λ e. ne (sym e))) ∙ *ℤ-zero (a j))
+    ∙ sum-one m l (λ j. a j *ℤ dot n (rows l) (columns j)) lt (λ j less ne. ap (λ (z : ℤ). a j *ℤ z) (basis.kills l j lt less (λ e. ne (sym e))) ∙ times_zero (a j))
     ∙ ap (λ (z : ℤ). a l *ℤ z) (basis.owns l lt)
-  where
-    *ℤ-zero : (a : ℤ) → a *ℤ pos 0 ≡ pos 0
-    *ℤ-zero a = omega (arith, ints)
 
 -- a row's product with a vector that is 0 but at k
 pub dot_one : (n k : ℕ) (r u : ℕ → ℤ) → k < n → ((c : ℕ) → c < n → c ≢ k → u c ≡ pos 0) → dot n r u ≡ r k *ℤ u k
 unfolding dot
 dot_one n k r u lt h = sum-one n k (λ c. r c *ℤ u c) lt (λ c less ne. ap (λ (v : ℤ). r c *ℤ v) (h c less ne) ∙ times_zero (r c))
-  where
-    times_zero : (a : ℤ) → a *ℤ pos 0 ≡ pos 0
-    times_zero a = omega (arith, ints)

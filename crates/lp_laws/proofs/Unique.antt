@@ -4,16 +4,13 @@ use Rattle.std.specs.Prelude.{ℤ, pos, ◌-ℤ◌, ◌*ℤ◌, ◌≤ℤ◌}
 use Rattle.std.proofs.lemmas.Int.{ints}
 use Rattle.std.proofs.lemmas.Bool.{cases_eq}
 use Rattle.cal_math.specs.Whole.{*ℤ_comm, *ℤ-≤}
-use Rattle.lp_laws.proofs.Sums.{sum-zero, dot_one, dot-scale, dot_same, dot_difference, dot-combined}
+use Rattle.lp_laws.proofs.Sums.{times_zero, sum-zero, dot_one, dot-scale, dot_same, dot_difference, dot-combined}
 use Rattle.lp_laws.proofs.Skip.{unit, unit_same, unit_other}
 use Rattle.lp_laws.proofs.Exchange.{zero_from_product, one_from_product, same_from_product}
 use Rattle.lp_laws.proofs.Fraction.{Common, common, expanded}
 use Rattle.lp_laws.proofs.Bezout.{one_from_primitive}
 use Rattle.lp_laws.specs.Vectors.{sum_to, dot}
 use Rattle.lp_laws.specs.Bases.{IsBasis, IsPrimitive}
-
-times_zero : (a : ℤ) → a *ℤ pos 0 ≡ pos 0
-times_zero a = omega (arith, ints)
 
 -- a row that kills all columns of some basis kills all
 pub kills_all : (n m : ℕ) (columns rows : ℕ → ℕ → ℤ) (own : ℕ → ℤ) → IsBasis n m columns rows own → (u : ℕ → ℤ) → ((j : ℕ) → j < m → dot n u (columns j) ≡ pos 0) → (x : ℕ → ℤ) → dot n u x ≡ pos 0

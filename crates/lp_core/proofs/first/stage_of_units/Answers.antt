@@ -6,7 +6,7 @@ use Rattle.lp_basis.specs.declared.column.Column.{Column}
 use Rattle.lp_basis.specs.declared.row.Row.{Row}
 use Rattle.lp_stage.specs.Stages.{CanStand}
 use Rattle.lp_stage.specs.declared.phase.Phase.TheVariants.{First}
-use Rattle.lp_core.specs.Phases.{CanBegin}
+use Rattle.lp_core.specs.FirstPhase.{CanBegin}
 use Rattle.lp_core.proofs.Beginning.{CanStand-units}
 use Rattle.lp_core.proofs.first.stage_of_units.Goals as goal
 

@@ -4,7 +4,7 @@ use Rattle.lp_basis.specs.Held.{numbers_at}
 use Rattle.lp_basis.proofs.Placed.{row_read}
 use Rattle.lp_basis.specs.declared.column.Column.{Column}
 use Rattle.lp_basis.specs.declared.row.Row.{Row}
-use Rattle.lp_core.specs.Seconds.{MeetsAll, IsMeeting, IsEntrant}
+use Rattle.lp_core.specs.SecondPhase.{MeetsAll, IsMeeting, IsEntrant}
 use Rattle.lp_core.proofs.second.entrant.Goals as goal
 
 entrant_from : (columns : List Column) (places : List (Option ℕ)) (rows : List Row) (j : ℕ) (found : Option ℕ) → get_or places j None ≡ None → IsMeeting columns (numbers_at rows j) found → IsEntrant columns places rows j found

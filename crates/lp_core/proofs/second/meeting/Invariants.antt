@@ -1,6 +1,6 @@
 use Rattle.std.proofs.Common.{◌≡◌, ℕ, ◌<◌}
 use Rattle.std.specs.Prelude.{pos}
-use Rattle.lp_core.specs.Seconds.{met_with}
+use Rattle.lp_core.specs.SecondPhase.{met_with}
 use Rattle.lp_core.proofs.second.meeting.Given as goal
 
 abbrev pub invariant-columns : goal.invariant-columns

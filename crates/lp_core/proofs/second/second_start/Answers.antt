@@ -1,6 +1,6 @@
 use Rattle.std.proofs.Common.{◌≡◌, ℕ, suc, arith, subst}
 use Rattle.lp_core.specs.Fitting.{widest, dearest}
-use Rattle.lp_core.specs.Seconds.{IsReady}
+use Rattle.lp_core.specs.SecondPhase.{IsReady}
 use Rattle.lp_core.proofs.Spare.{CanStand-follow, IsReady-first}
 use Rattle.lp_core.proofs.second.second_start.Goals as goal
 

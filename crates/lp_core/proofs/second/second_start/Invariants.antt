@@ -1,6 +1,6 @@
 use Rattle.std.proofs.Common.{ℕ, List}
 use Rattle.std.specs.Prelude.{ℤ}
-use Rattle.lp_core.specs.Seconds.{CanFollow, IsReady}
+use Rattle.lp_core.specs.SecondPhase.{CanFollow, IsReady}
 use Rattle.lp_core.proofs.second.second_start.Given as goal
 
 abbrev pub invariant-places : goal.invariant-places

@@ -13,7 +13,7 @@ use Rattle.lp_stage.specs.declared.phase.Phase.TheVariants.{Second}
 use Rattle.lp_stage.specs.declared.stage.Stage.{Stage}
 use Rattle.lp_core.specs.Fitting.{widest, Fits}
 use Rattle.lp_core.specs.Ends.{IsReached}
-use Rattle.lp_core.specs.Phases.{IsFirstEnd, HasNoUnit}
+use Rattle.lp_core.specs.FirstPhase.{IsFirstEnd, HasNoUnit}
 
 -- the product of the row with the known column at k
 abbrev pub met_with : List Column → List ℤ → ℕ → ℤ
