@@ -7,3 +7,4 @@ pub mod Spare
 pub mod Divisors
 pub mod Weighing
 pub mod Planning
+pub mod Cheapest

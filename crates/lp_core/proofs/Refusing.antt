@@ -21,11 +21,11 @@ use Rattle.lp_core.specs.Plans.{Weight, given, IsFeasible, IsProofOfNone}
 use Rattle.lp_core.specs.FirstPhase.{IsFirstEnd, HasUnit}
 use Rattle.lp_core.proofs.Beginning.{cost_small_first}
 
-dot-plus : (n : ℕ) (v x y : ℕ → ℤ) → dot n v (λ c. x c +ℤ y c) ≡ dot n v x +ℤ dot n v y
+pub dot-plus : (n : ℕ) (v x y : ℕ → ℤ) → dot n v (λ c. x c +ℤ y c) ≡ dot n v x +ℤ dot n v y
 unfolding dot
 dot-plus n v x y = sum-same n (λ c. v c *ℤ (x c +ℤ y c)) (λ c. v c *ℤ x c +ℤ v c *ℤ y c) (λ c lt. *ℤ-+ℤ (v c) (x c) (y c)) ∙ sum-add n (λ c. v c *ℤ x c) (λ c. v c *ℤ y c)
 
-dot-zero : (n : ℕ) (v : ℕ → ℤ) → dot n v (λ c. pos 0) ≡ pos 0
+pub dot-zero : (n : ℕ) (v : ℕ → ℤ) → dot n v (λ c. pos 0) ≡ pos 0
 unfolding dot
 dot-zero n v = sum-zero n (λ c. v c *ℤ pos 0) (λ c lt. times_zero (v c))
 

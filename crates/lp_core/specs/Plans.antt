@@ -1,5 +1,5 @@
 -- Plans of weighted columns with their potentials, and the proof that there is none.
-use Rattle.std.specs.Prelude.{◌≡◌, ℕ, ◌*◌, ◌<◌, ◌≤◌, ◌^◌, ◌-◌, ◌≢◌, List, length, Some, slice_get, AllPairs, All}
+use Rattle.std.specs.Prelude.{◌≡◌, ℕ, zero, suc, ◌*◌, ◌<◌, ◌≤◌, ◌^◌, ◌-◌, ◌≢◌, List, [], ◌∷◌, length, Some, slice_get, AllPairs, All}
 use Rattle.std.specs.Prelude.{ℤ, pos, ◌*ℤ◌, ◌≤ℤ◌, unsigned_abs}
 use Rattle.cal_math.specs.Sums.{sum_of}
 use Rattle.lp_laws.specs.Vectors.{dot}
@@ -18,6 +18,16 @@ Weight = ℕ × ℤ
 -- what the weights give of component c: the sum of weight times amount
 abbrev pub given : List Column → List Weight → ℕ → ℤ
 given columns weights c = sum_of (λ w. w.1 *ℤ at (amounts_at columns w.0) c) weights
+
+-- what a unit of the column at k costs
+abbrev pub column_cost : List Column → ℕ → ℤ
+column_cost [] k = pos 0
+column_cost (column ∷ columns) zero = column.cost
+column_cost (column ∷ columns) (suc k) = column_cost columns k
+
+-- what the weights cost: the sum of weight times cost
+abbrev pub cost_of : List Column → List Weight → ℤ
+cost_of columns weights = sum_of (λ w. w.1 *ℤ column_cost columns w.0) weights
 
 -- weights of at least 0 that give `parts` times the target
 pub record IsFeasible (columns : List Column) (target : List ℤ) (parts : ℕ) (weights : List Weight) : Type 0 where
@@ -47,6 +57,11 @@ pub record IsPlan (columns : List Column) (target : List ℤ) (plan : Plan) : Ty
   pub tight : All (λ w. (column : Column) → slice_get columns w.0 ≡ Some column →
       dot (length target) (at plan.potentials.items) (at column.amounts.items) ≡ column.cost *ℤ plan.denominator)
       plan.weights.items
+
+-- no weights that give the target cost less, each over its own parts
+abbrev pub IsCheapest : List Column → List ℤ → Plan → Type 0
+IsCheapest columns target plan = (parts : ℕ) (weights : List Weight) → IsFeasible columns target parts weights →
+    (pos parts *ℤ cost_of columns plan.weights.items) ≤ℤ (plan.parts *ℤ cost_of columns weights)
 
 -- numbers of at most 3*C*w^(C-1) in magnitude, at most 0 at every column and above 0 at the target
 pub record IsProofOfNone (columns : List Column) (target v : List ℤ) : Type 0 where

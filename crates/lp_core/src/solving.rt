@@ -1,6 +1,6 @@
 ghost use Rattle.std.specs.Prelude.{IfOk, IfErr};
 ghost use Rattle.lp_core.specs.Fitting.{Fits};
-ghost use Rattle.lp_core.specs.Plans.{IsPlan, IsRefusal};
+ghost use Rattle.lp_core.specs.Plans.{IsPlan, IsCheapest, IsRefusal};
 
 use crate::fault::LpFault;
 use crate::first::{first_end, has_unit};
@@ -15,6 +15,9 @@ use std::alloc::Global;
 pub fn solve(alloc: Global, columns: &[Column], target: &[i128]) -> Result<Plan, LpFault>
     requires { Fits columns.now target.now }
     ensures plan { IfOk result (λ plan. IsPlan columns.now target.now plan) }
+
+    // No weights that give the target cost less.
+    ensures least { IfOk result (λ plan. IsCheapest columns.now target.now plan) }
 
     // Where there is no plan, no weights of at least 0 give the target.
     ensures infeasible { IfErr result (λ fault. IsRefusal columns.now target.now fault) }

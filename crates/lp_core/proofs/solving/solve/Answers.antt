@@ -4,6 +4,7 @@ use Rattle.lp_stage.specs.declared.phase.Phase.TheVariants.{First}
 use Rattle.lp_basis.specs.declared.column.Column.{Column}
 use Rattle.lp_core.specs.Fitting.{widest, Fits}
 use Rattle.lp_core.proofs.Beginning.{meets_target}
+use Rattle.lp_core.proofs.Cheapest.{cheapest}
 use Rattle.lp_core.proofs.Refusing.{proof_of_none, no_weights_give}
 use Rattle.lp_core.proofs.solving.solve.Goals as goal
 
@@ -50,3 +51,11 @@ returns-clause-plan c =
     let size = size_is c.args.columns.now c.args.target.now c.requires in
     let none = rw (c.deref.ensures.value, c.deref-2.ensures.value) at c.if-has_unit.ensures.no in
     c.in_ok-plan.ensures b c.args.columns.now (c.in_ok-last.ensures b (record { fits = c.requires; size = size; first = c.in_ok-end.ensures b size; none = none }))
+
+pub returns-clause-least : goal.returns-clause-least
+returns-clause-least c =
+    let b = length c.args.target.now - 1 in
+    let size = size_is c.args.columns.now c.args.target.now c.requires in
+    let none = rw (c.deref.ensures.value, c.deref-2.ensures.value) at c.if-has_unit.ensures.no in
+    let last = c.in_ok-last.ensures b (record { fits = c.requires; size = size; first = c.in_ok-end.ensures b size; none = none }) in
+    cheapest c.args.columns.now c.args.target.now c.in_ok-plan.plan (c.in_ok-plan.ensures b c.args.columns.now last)
