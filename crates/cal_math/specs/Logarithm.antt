@@ -1,7 +1,7 @@
 -- The integer logarithm, in units of 10^-15, by the series of ln (i / (i - 1)):
 --   L(1) = 0,  L(n) = sum over i = 2 .. n of sum over odd m of floor (2 * 10^15 / (m * (2 * i - 1)^m)).
 -- A summand is 0 from m = 31 on, since 31 * 3^31 is above 2 * 10^15, so fifteen odd numbers suffice.
-use Rattle.std.specs.Prelude.{ℕ, zero, suc, ◌+◌, ◌-◌, ◌*◌, ◌/◌, ◌%◌, ◌^◌}
+use Rattle.std.specs.Prelude.{ℕ, ◌+◌, ◌-◌, ◌*◌, ◌/◌, ◌%◌, ◌^◌}
 use Rattle.cal_math.specs.Sums.{sum_below}
 
 -- the summand of the odd number m at i

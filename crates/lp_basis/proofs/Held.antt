@@ -6,13 +6,13 @@ use Rattle.std.proofs.Math.Nat.{pow-suc, mul-le-mul_left, le-mul_of_pos_right}
 use Rattle.std.proofs.lemmas.Bool.{cases_eq, cases_lt}
 use Rattle.cal_math.specs.Whole.{*ℤ_left, *ℤ_assoc}
 use Rattle.lp_laws.proofs.Skip.{put, put_same, put_other}
+use Rattle.cal_math.specs.Vectors.{at, sum_to, dot}
+use Rattle.cal_math.proofs.Vectors.{sum-same}
 use Rattle.lp_laws.proofs.Exchange.{IsDivided, IsBasis-from_divided, IsBasis-from_exchange}
 use Rattle.lp_basis.proofs.Products.{dot_small}
 use Rattle.lp_laws.proofs.Bounds.{number-le}
-use Rattle.lp_laws.proofs.Sums.{sum-same}
-use Rattle.lp_laws.specs.Vectors.{sum_to, dot}
 use Rattle.lp_laws.specs.Bases.{IsBasis, IsExchange}
-use Rattle.lp_basis.specs.Rows.{at, FitsProduct}
+use Rattle.lp_basis.specs.Rows.{FitsProduct}
 use Rattle.lp_laws.specs.Bases.{IsPrimitive}
 use Rattle.lp_basis.specs.Held.{IsHeld, CanEnter, IsPut, numbers_at, own_at}
 use Rattle.lp_basis.specs.Steps.{IsPlaced}
@@ -38,7 +38,7 @@ powers_room b w some room = (rw (sym (pow-suc w b)) room, omega (arith, pow-suc 
 pub fits_column : (b w : ℕ) (columns : ℕ → ℕ → ℤ) (rows : List Row) (column : List ℤ) → IsHeld (suc b) w columns rows → length column ≡ suc b → ((c : ℕ) → pos 0 ≤ℤ at column c) → sum_to (suc b) (at column) ≤ℤ pos w →
     (j : ℕ) → j < suc b → FitsProduct (w ^ b) w (numbers_at rows j) column
 fits_column b w columns rows column held same least sum j lt = record {
-  same = held.lengths j lt ∙ sym same;
+  sized = held.lengths j lt ∙ sym same;
   row_small = number_small b w columns rows held j lt;
   least = least;
   sum = rw (held.lengths j lt) sum;
@@ -46,7 +46,7 @@ fits_column b w columns rows column held same least sum j lt = record {
 }
 
 pub fits_product : (b w : ℕ) (columns : ℕ → ℕ → ℤ) (rows : List Row) (i : ℕ) (column : List ℤ) → CanEnter (suc b) w columns rows i column → (j : ℕ) → j < suc b → FitsProduct (w ^ b) w (numbers_at rows j) column
-fits_product b w columns rows i column can = fits_column b w columns rows column can.held can.same can.least can.sum
+fits_product b w columns rows i column can = fits_column b w columns rows column can.held can.sized can.least can.sum
 
 pub product_small : (b w : ℕ) (columns : ℕ → ℕ → ℤ) (rows : List Row) (i : ℕ) (column : List ℤ) → CanEnter (suc b) w columns rows i column → (j : ℕ) → j < suc b →
     unsigned_abs (dot (suc b) (at (numbers_at rows j)) (at column)) ≤ w ^ b * w
@@ -70,7 +70,7 @@ pub IsHeld-exchange : (n w : ℕ) (columns : ℕ → ℕ → ℤ) (rows : List R
     IsHeld n w columns' next
 IsHeld-exchange n w columns rows i column mine turn p next columns' can is_put one mine_is some p_is count placed = record {
   count = count;
-  lengths = λ j lt. ap length (placed j lt).1 ∙ (placed j lt).3.same;
+  lengths = λ j lt. ap length (placed j lt).1 ∙ (placed j lt).3.sized;
   basis = IsBasis-from_divided n n columns' raw raw_own (λ j. at (numbers_at next j)) (own_at next) basis1 each;
   primitive = λ j lt. elim (cases_eq j i) [
     | inl e ↦ turned_primitive n turn (at (numbers_at rows i)) (at mine) (at (numbers_at next j)) one mine_is (λ c less. ap (λ (xs : List ℤ). at xs c) (placed j lt).1 ∙ ((placed j lt).3.here e).0 c less) (can.held.primitive i can.within)
@@ -86,7 +86,7 @@ IsHeld-exchange n w columns rows i column mine turn p next columns' can is_put o
       | inr ne ↦ subst (λ (z : ℤ). z ≤ℤ pos w) (sym (sum-same n (columns' j) (columns j) (λ c less. is_put.stays j lt ne c less))) (can.held.plain.sums j lt)
     ];
   };
-  some = can.held.some;
+  positive = can.held.positive;
   wide = can.held.wide;
   room = can.held.room;
 }
@@ -105,8 +105,8 @@ IsHeld-exchange n w columns rows i column mine turn p next columns' can is_put o
 
     exchange : IsExchange n n i columns (λ j. at (numbers_at rows j)) (own_at rows) (at column) turn columns' raw raw_own
     exchange = record {
-      turned = record { one = one; is = λ c less. ap (λ (f : ℕ → ℤ). f c) (put_same i (at mine) old_raw) ∙ mine_is c less };
-      some = rw (put_same i p old_own) some;
+      turned = record { one = one; exact = λ c less. ap (λ (f : ℕ → ℤ). f c) (put_same i (at mine) old_raw) ∙ mine_is c less };
+      positive = rw (put_same i p old_own) some;
       enters = is_put.enters;
       stays = is_put.stays;
       own_is = put_same i p old_own ∙ p_is ∙ ap (λ (f : ℕ → ℤ). dot n f (at column)) (sym (put_same i (at mine) old_raw));
@@ -121,13 +121,13 @@ IsHeld-exchange n w columns rows i column mine turn p next columns' can is_put o
     each j lt = elim (cases_eq j i) [
       | inl e ↦ record {
         shared = pos 1;
-        some = omega (arith, ints);
+        positive = omega (arith, ints);
         row_is = λ c less. ap (λ (f : ℕ → ℤ). f c) (ap raw e ∙ put_same i (at mine) old_raw) ∙ sym (((placed j lt).3.here e).0 c less) ∙ ap (λ (xs : List ℤ). at xs c) (sym (placed j lt).1) ∙ omega (arith, ints);
         own_is = ap raw_own e ∙ put_same i p old_own ∙ sym ((placed j lt).3.here e).1 ∙ sym (placed j lt).2 ∙ omega (arith, ints);
       }
       | inr ne ↦ record {
         shared = ((placed j lt).3.there ne).shared;
-        some = ((placed j lt).3.there ne).some;
+        positive = ((placed j lt).3.there ne).positive;
         row_is = λ c less. ap (λ (f : ℕ → ℤ). f c) (put_other i (at mine) old_raw j ne) ∙ ((placed j lt).3.there ne).numbers_are c (omega (arith, can.held.lengths j lt)) ∙ ap (λ (xs : List ℤ). ((placed j lt).3.there ne).shared *ℤ at xs c) (sym (placed j lt).1);
         own_is = put_other i p old_own j ne ∙ ((placed j lt).3.there ne).own_is ∙ ap (λ (z : ℤ). ((placed j lt).3.there ne).shared *ℤ z) (sym (placed j lt).2);
       }

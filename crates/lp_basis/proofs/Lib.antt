@@ -1,6 +1,5 @@
 pub mod Lists
 pub mod Products
-pub mod Ratios
 pub mod Next
 pub mod Held
 pub mod Placed

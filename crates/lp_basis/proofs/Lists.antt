@@ -1,14 +1,13 @@
--- Lists that grow by one number, products of rows that fit, exact quotients.
-use Rattle.std.proofs.Common.{◌≡◌, ℕ, zero, suc, ◌+◌, ◌*◌, ◌<◌, ◌≤◌, List, [], ◌∷◌, ◌++◌, length, get_or, refl, arith, ap, sym, subst, inl, inr}
-use Rattle.std.specs.Prelude.{ℤ, pos, negsuc, ◌-ℤ◌, ◌*ℤ◌, ◌≤ℤ◌, unsigned_abs, FitsSigned}
+-- Lists that grow by one number, products of rows that fit.
+use Rattle.std.proofs.Common.{◌≡◌, ℕ, zero, suc, ◌+◌, ◌*◌, ◌<◌, ◌≤◌, List, [], ◌∷◌, ◌++◌, length, get_or, refl, arith, sym, subst, inl, inr}
+use Rattle.std.specs.Prelude.{ℤ, ◌-ℤ◌, ◌*ℤ◌, unsigned_abs, FitsSigned}
 use Rattle.std.specs.Int.{w128, ◌∣◌}
-use Rattle.std.specs.Int.RustNames.{int_div, int_rem}
-use Rattle.std.proofs.lemmas.Int.{ints, unsigned_abs-mul, fits_signed_from_abs, quot-rem, rem_below}
-use Rattle.std.proofs.lemmas.Nat.{mul-le}
+use Rattle.std.proofs.lemmas.Int.{ints, fits_signed_from_abs}
 use Rattle.std.proofs.lemmas.Nat.Gcd.{dvd_trans}
 use Rattle.std.proofs.lemmas.Bool.{cases_eq}
-use Rattle.cal_math.specs.Whole.{abs-*ℤ-le, *ℤ--ℤ, *ℤ_comm}
-use Rattle.lp_basis.specs.Rows.{at, FitsMixed}
+use Rattle.cal_math.specs.Whole.{abs-*ℤ-le}
+use Rattle.cal_math.specs.Vectors.{at}
+use Rattle.lp_basis.specs.Rows.{FitsMixed}
 
 pub at_front : (xs : List ℤ) (y : ℤ) (c : ℕ) → c < length xs → at (xs ++ y ∷ []) c ≡ at xs c
 at_front [] y c lt = absurd (omega arith)
@@ -34,18 +33,6 @@ mixed_fits m r p row q other c fits =
     let second : unsigned_abs (q *ℤ at other c) ≤ r * m = abs-*ℤ-le q (at other c) r m fits.q_small (fits.other_small c) in
     let both : unsigned_abs (p *ℤ at row c -ℤ q *ℤ at other c) ≤ r * m + r * m = omega (arith, ints, first, second) in
     (fits_signed_from_abs w128 _ (omega (arith, first, fits.room)), fits_signed_from_abs w128 _ (omega (arith, second, fits.room)), fits_signed_from_abs w128 _ (omega (arith, both, fits.room)))
-
-zero_multiple : (d u r : ℤ) → d *ℤ u ≡ r → unsigned_abs r < unsigned_abs d → r ≡ pos 0
-zero_multiple d (pos zero) r e h = omega (arith, ints, e)
-zero_multiple d (pos (suc n)) r e h = absurd (omega (arith, ap unsigned_abs e, unsigned_abs-mul d (pos (suc n)), mul-le (unsigned_abs d) 1 (unsigned_abs d) (suc n) (omega arith) (omega arith)))
-zero_multiple d (negsuc n) r e h = absurd (omega (arith, ap unsigned_abs e, unsigned_abs-mul d (negsuc n), mul-le (unsigned_abs d) 1 (unsigned_abs d) (suc n) (omega arith) (omega arith)))
-
-pub quotient_exact : (a d t : ℤ) → pos 1 ≤ℤ d → d *ℤ t ≡ a → d *ℤ int_div a d ≡ a
-quotient_exact a d t h e =
-    let some : 0 < unsigned_abs d = omega (arith, ints) in
-    let rest : d *ℤ (t -ℤ int_div a d) ≡ int_rem a d = omega (arith, ints, *ℤ--ℤ d t (int_div a d), e, quot-rem a d, *ℤ_comm (int_div a d) d) in
-    let none : int_rem a d ≡ pos 0 = zero_multiple d (t -ℤ int_div a d) (int_rem a d) rest (rem_below a d some) in
-    omega (arith, ints, quot-rem a d, *ℤ_comm (int_div a d) d, none)
 
 pub divides_more : (xs : List ℤ) (g h s : ℕ) (i : ℕ) → s ≡ unsigned_abs (at xs i) → h ∣ g → h ∣ s → ((c : ℕ) → c < i → g ∣ unsigned_abs (at xs c)) → (c : ℕ) → c < i + 1 → h ∣ unsigned_abs (at xs c)
 divides_more xs g h s i e p q all c lt =

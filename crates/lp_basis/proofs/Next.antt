@@ -8,10 +8,10 @@ use Rattle.std.proofs.Math.Nat.{dvd-mul_right}
 use Rattle.std.proofs.lemmas.Nat.Gcd.{le_of_dvd, mod-eq-zero_of_dvd}
 use Rattle.std.proofs.lemmas.Bool.{cases_eq, cases_lt}
 use Rattle.cal_math.specs.Whole.{abs-*ℤ-le, *ℤ--ℤ, *ℤ_assoc}
-use Rattle.lp_laws.proofs.Exchange.{one-le-*ℤ}
-use Rattle.lp_laws.proofs.Sums.{dot_difference, dot_scaled}
-use Rattle.lp_laws.specs.Vectors.{dot}
-use Rattle.lp_basis.specs.Rows.{at, FitsMixed}
+use Rattle.cal_math.specs.Vectors.{at, dot}
+use Rattle.cal_math.proofs.Products.{one-le-*ℤ}
+use Rattle.cal_math.proofs.Vectors.{dot_difference, dot_scaled}
+use Rattle.lp_basis.specs.Rows.{FitsMixed}
 use Rattle.lp_laws.specs.Bases.{IsPrimitive}
 use Rattle.lp_basis.specs.Steps.{Keeps, IsNext}
 
@@ -77,7 +77,7 @@ pub IsNext-from : (p : ℤ) (row : List ℤ) (own q : ℤ) (mine numbers less : 
     ((c : ℕ) → c < length numbers → all *ℤ at less c ≡ at numbers c) → all *ℤ next_own ≡ p *ℤ own → IsNext p row own q mine less next_own
 IsNext-from p row own q mine numbers less all next_own k same is some greatest parts own_is = record {
   shared = all;
-  some = some;
+  positive = some;
   numbers_are = λ c lt. sym (is c lt) ∙ sym (parts c (omega (arith, same)));
   own_is = sym own_is;
   primitive = subst (λ (n : ℕ). IsPrimitive n (at less)) same (left_primitive (length numbers) numbers less all some (some_mixed p row own q mine numbers k same is) parts greatest);

@@ -7,11 +7,10 @@ use Rattle.std.proofs.lemmas.Nat.{mul-le}
 use Rattle.std.proofs.Math.Nat.{mul-le-mul_left}
 use Rattle.std.proofs.lemmas.Bool.{cases_eq, cases_lt}
 use Rattle.cal_math.specs.Whole.{abs-*ℤ-le}
-use Rattle.lp_laws.proofs.Sums.{dot_scaled}
-use Rattle.lp_laws.proofs.Own.{dot_bounded}
+use Rattle.cal_math.specs.Vectors.{at, sum_to, dot}
+use Rattle.cal_math.proofs.Vectors.{dot_scaled, dot_bounded}
 use Rattle.lp_basis.proofs.Held.{IsHeld-exchange, at_past, number_small, product_small, powers_room}
-use Rattle.lp_laws.specs.Vectors.{sum_to, dot}
-use Rattle.lp_basis.specs.Rows.{at, FitsMixed}
+use Rattle.lp_basis.specs.Rows.{FitsMixed}
 use Rattle.lp_basis.specs.Held.{IsHeld, CanEnter, IsPut, numbers_at, own_at}
 use Rattle.lp_basis.specs.Steps.{Keeps, IsNext, CanPlace, IsPlaced}
 use Rattle.lp_basis.specs.declared.row.Row.{Row}
@@ -35,15 +34,15 @@ turned_size turn z e = unsigned_abs-mul turn z ∙ ap (λ (a : ℕ). a * unsigne
 mine_small : (b w : ℕ) (columns : ℕ → ℕ → ℤ) (rows : List Row) (i : ℕ) (p : ℤ) (mine column : List ℤ) → CanPlace b w columns rows i p mine column → (c : ℕ) → unsigned_abs (at mine c) ≤ w ^ b
 mine_small b w columns rows i p mine column can c =
     elim (cases_lt c (suc b)) [
-      | inl less ↦ omega (arith, ap unsigned_abs (can.is c less), turned_size can.turn (at (numbers_at rows i) c) can.one, number_small b w columns rows can.can.held i can.can.within c)
-      | inr le ↦ rw (at_past mine c (omega (arith, can.same))) (omega arith)
+      | inl less ↦ omega (arith, ap unsigned_abs (can.exact c less), turned_size can.turn (at (numbers_at rows i) c) can.one, number_small b w columns rows can.can.held i can.can.within c)
+      | inr le ↦ rw (at_past mine c (omega (arith, can.sized))) (omega arith)
     ]
 
 p_small : (b w : ℕ) (columns : ℕ → ℕ → ℤ) (rows : List Row) (i : ℕ) (p : ℤ) (mine column : List ℤ) → CanPlace b w columns rows i p mine column → unsigned_abs p ≤ w ^ b * w
 p_small b w columns rows i p mine column can =
     omega (
       arith,
-      ap unsigned_abs (can.p_is ∙ dot_scaled (suc b) can.turn (at (numbers_at rows i)) (at mine) (at column) can.is),
+      ap unsigned_abs (can.p_is ∙ dot_scaled (suc b) can.turn (at (numbers_at rows i)) (at mine) (at column) can.exact),
       turned_size can.turn (dot (suc b) (at (numbers_at rows i)) (at column)) can.one,
       product_small b w columns rows i column can.can i can.can.within,
     )
@@ -86,15 +85,15 @@ pub place_keeps : (b w : ℕ) (columns : ℕ → ℕ → ℤ) (rows : List Row) 
 place_keeps b w columns rows i p mine column can j lt ne = record {
   column = columns j;
   owns = rw (can.can.held.lengths j lt) (can.can.held.basis.owns j lt);
-  killed = rw (can.can.held.lengths j lt) (dot_scaled (suc b) can.turn (at (numbers_at rows i)) (at mine) (columns j) can.is ∙ ap (λ (z : ℤ). can.turn *ℤ z) (can.can.held.basis.kills i j can.can.within lt (λ e. ne (sym e))) ∙ omega (arith, ints));
-  p_some = can.some;
+  killed = rw (can.can.held.lengths j lt) (dot_scaled (suc b) can.turn (at (numbers_at rows i)) (at mine) (columns j) can.exact ∙ ap (λ (z : ℤ). can.turn *ℤ z) (can.can.held.basis.kills i j can.can.within lt (λ e. ne (sym e))) ∙ omega (arith, ints));
+  p_some = can.positive;
   own_some = can.can.held.basis.above j lt;
 }
 
 pub IsPlaced-there : (b w : ℕ) (columns : ℕ → ℕ → ℤ) (rows : List Row) (i : ℕ) (p : ℤ) (mine column : List ℤ) → CanPlace b w columns rows i p mine column → (j : ℕ) → j < suc b → j ≢ i →
     (next : Row) → length next.numbers.items ≡ suc b → IsNext p (numbers_at rows j) (own_at rows j) (dot (suc b) (at (numbers_at rows j)) (at column)) mine next.numbers.items next.own →
     IsPlaced i j (length column) p mine column rows next
-IsPlaced-there b w columns rows i p mine column can j lt ne next same is = rw can.can.same (record { same = same; here = λ e. absurd (ne e); there = λ other. is })
+IsPlaced-there b w columns rows i p mine column can j lt ne next same is = rw can.can.sized (record { sized = same; here = λ e. absurd (ne e); there = λ other. is })
 
 pub CanPlace-from : (b w : ℕ) (columns : ℕ → ℕ → ℤ) (rows : List Row) (i : ℕ) (column : List ℤ) → CanEnter (suc b) w columns rows i column → (turn met p : ℤ) (mine : List ℤ) →
     turn *ℤ turn ≡ pos 1 → turn *ℤ met ≡ pos (unsigned_abs met) → met ≡ dot (suc b) (at (numbers_at rows i)) (at column) → p ≡ turn *ℤ met → length mine ≡ suc b →
@@ -105,9 +104,9 @@ CanPlace-from b w columns rows i column can turn met p mine one size met_is p_is
       can = can;
       turn = turn;
       one = one;
-      same = same;
-      is = mine_is;
-      some = elim (cases_eq (unsigned_abs met) 0) [
+      sized = same;
+      exact = mine_is;
+      positive = elim (cases_eq (unsigned_abs met) 0) [
         | inl e ↦ absurd (can.met (sym met_is ∙ omega (arith, ints)))
         | inr ne ↦ omega (arith, ints, p_is, size)
       ];
@@ -134,5 +133,5 @@ read_back (x ∷ xs) (suc j) d lt = read_back xs j d (omega arith)
 pub IsHeld-placed : (b w : ℕ) (columns columns' : ℕ → ℕ → ℤ) (rows : List Row) (i : ℕ) (column : List ℤ) (p : ℤ) (mine : List ℤ) (next : List Row) (d : Row) → CanPlace b w columns rows i p mine column →
     IsPut (suc b) i columns column columns' → length next ≡ suc b → ((k : ℕ) (d : Row) → k < suc b → IsPlaced i k (length column) p mine column rows (get_or next k d)) → IsHeld (suc b) w columns' next
 IsHeld-placed b w columns columns' rows i column p mine next d can is_put count all =
-    IsHeld-exchange (suc b) w columns rows i column mine can.turn p next columns' can.can is_put can.one can.is can.some can.p_is count
-    (λ j lt. (get_or next j d, (read_back next j d (omega (arith, count))).0, (read_back next j d (omega (arith, count))).1, subst (λ (n : ℕ). IsPlaced i j n p mine column rows (get_or next j d)) can.can.same (all j d lt)))
+    IsHeld-exchange (suc b) w columns rows i column mine can.turn p next columns' can.can is_put can.one can.exact can.positive can.p_is count
+    (λ j lt. (get_or next j d, (read_back next j d (omega (arith, count))).0, (read_back next j d (omega (arith, count))).1, subst (λ (n : ℕ). IsPlaced i j n p mine column rows (get_or next j d)) can.can.sized (all j d lt)))

@@ -4,14 +4,13 @@ use Rattle.std.specs.Prelude.{ℤ, pos, ◌*ℤ◌, unsigned_abs}
 use Rattle.std.proofs.lemmas.Int.{ints, unsigned_abs-mul}
 use Rattle.std.proofs.lemmas.Bool.{cases_eq, cases_lt}
 use Rattle.std.proofs.Math.Nat.{pow-suc, mul-le-mul_right, le-mul_of_pos_right}
-use Rattle.lp_laws.proofs.Sums.{sum-zero}
+use Rattle.cal_math.specs.Vectors.{at, dot}
+use Rattle.cal_math.proofs.Vectors.{sum-zero}
 use Rattle.lp_laws.proofs.Skip.{put, put_same, put_other}
 use Rattle.lp_laws.proofs.Own.{own-le}
 use Rattle.lp_laws.proofs.Reduced.{reduced_denominator-le, reduced_potential-le}
 use Rattle.lp_laws.proofs.Summands.{IsPriced-more}
-use Rattle.lp_laws.specs.Vectors.{dot}
 use Rattle.lp_laws.specs.Bases.{IsPriced, IsReduced}
-use Rattle.lp_basis.specs.Rows.{at}
 use Rattle.lp_basis.specs.Held.{numbers_at, own_at}
 use Rattle.lp_basis.specs.Potentials.{IsSummed, FitsSum, CanPrice, IsPotentials}
 use Rattle.lp_basis.specs.declared.row.Row.{Row}
@@ -77,7 +76,7 @@ pub priced_more : (b w s : ℕ) (columns : ℕ → ℕ → ℤ) (rows : List Row
     IsPriced (suc b) (suc b) columns (front (suc k) (at costs)) numbers' d'
 priced_more b w s columns rows costs k numbers numbers' d d' can lt priced summed =
     IsPriced-more (suc b) (suc b) k columns (λ j. at (numbers_at rows j)) (own_at rows) (at costs) (front k (at costs)) (front (suc k) (at costs)) numbers numbers' d d' can.held.basis lt
-    (front_past k k (at costs) (omega arith)) (front_here k (at costs)) (λ j less ne. front_other k j (at costs) ne) priced summed.some summed.is
+    (front_past k k (at costs) (omega arith)) (front_here k (at costs)) (λ j less ne. front_other k j (at costs) ne) priced summed.positive summed.exact
 
 pub fits_sum : (b w s : ℕ) (columns : ℕ → ℕ → ℤ) (rows : List Row) (costs : List ℤ) (k : ℕ) (sum : Potentials) → CanPrice b w s columns rows costs → k < suc b →
     IsPotentials (suc b) columns (front k (at costs)) sum → FitsSum sum.numbers.items sum.denominator (at costs k) (numbers_at rows k) (own_at rows k)
@@ -86,18 +85,18 @@ fits_sum b w s columns rows costs k sum can lt is =
     let now = prices_fit b w s columns rows costs k (at sum.numbers.items) sum.denominator can is.priced is.reduced in
     let room = powers_room b w can.held.wide can.held.room in
     record {
-      same = can.held.lengths k lt ∙ sym is.same;
-      d_some = is.priced.some;
+      sized = can.held.lengths k lt ∙ sym is.sized;
+      d_some = is.priced.positive;
       d_small = now.0;
       own_some = can.held.basis.above k lt;
       own_small = omega (arith, ints, own-le b w columns (λ j. at (numbers_at rows j)) (own_at rows) can.held.basis can.held.plain k lt (can.held.primitive k lt), can.held.room);
       small = λ c. elim (cases_lt c (suc b)) [
         | inl less ↦ now.1 c less
-        | inr le ↦ rw (at_past sum.numbers.items c (omega (arith, is.same))) (omega arith)
+        | inr le ↦ rw (at_past sum.numbers.items c (omega (arith, is.sized))) (omega arith)
       ];
       row_small = λ c. omega (arith, number_small b w columns rows can.held k lt c, room.1);
       cost_small = omega (arith, can.small k, can.cost_room);
-      sum_small = λ numbers' d' summed. rw is.same (prices_fit b w s columns rows costs (suc k) numbers' d' can (priced_more b w s columns rows costs k (at sum.numbers.items) numbers' sum.denominator d' can lt is.priced (rw is.same at summed)) (rw is.same at summed.reduced));
+      sum_small = λ numbers' d' summed. rw is.sized (prices_fit b w s columns rows costs (suc k) numbers' d' can (priced_more b w s columns rows costs k (at sum.numbers.items) numbers' sum.denominator d' can lt is.priced (rw is.sized at summed)) (rw is.sized at summed.reduced));
     }
 
 pub potentials_more : (b w s : ℕ) (columns : ℕ → ℕ → ℤ) (rows : List Row) (costs : List ℤ) (k : ℕ) (sum next : Potentials) → CanPrice b w s columns rows costs → k < suc b →
@@ -105,9 +104,9 @@ pub potentials_more : (b w s : ℕ) (columns : ℕ → ℕ → ℤ) (rows : List
     IsSummed (length sum.numbers.items) (at sum.numbers.items) sum.denominator (at costs k) (at (numbers_at rows k)) (own_at rows k) (at next.numbers.items) next.denominator →
     IsPotentials (suc b) columns (front (suc k) (at costs)) next
 potentials_more b w s columns rows costs k sum next can lt is same summed = record {
-  same = same ∙ is.same;
-  priced = priced_more b w s columns rows costs k (at sum.numbers.items) (at next.numbers.items) sum.denominator next.denominator can lt is.priced (rw is.same at summed);
-  reduced = rw is.same at summed.reduced;
+  sized = same ∙ is.sized;
+  priced = priced_more b w s columns rows costs k (at sum.numbers.items) (at next.numbers.items) sum.denominator next.denominator can lt is.priced (rw is.sized at summed);
+  reduced = rw is.sized at summed.reduced;
 }
 
 -- ---- at the start and at the end
@@ -121,9 +120,9 @@ at_zeros (x ∷ xs) (suc c) h = at_zeros xs c (λ k. h (suc k))
 pub no_potentials : (n : ℕ) (columns : ℕ → ℕ → ℤ) (costs : ℕ → ℤ) (sum : Potentials) → length sum.numbers.items ≡ n → ((c : ℕ) → at sum.numbers.items c ≡ pos 0) → sum.denominator ≡ 1 → IsPotentials n columns (front 0 costs) sum
 unfolding front dot IsReduced
 no_potentials n columns costs sum same zeros one = record {
-  same = same;
+  sized = same;
   priced = record {
-    some = omega (arith, one);
+    positive = omega (arith, one);
     meets = λ j lt. sum-zero n (λ c. at sum.numbers.items c *ℤ columns j c) (λ c less. ap (λ (z : ℤ). z *ℤ columns j c) (zeros c) ∙ omega (arith, ints)) ∙ omega (arith, ints);
   };
   reduced = λ g first each. one_divisor g first.0 (first.1 ∙ ap pos one);
@@ -140,7 +139,7 @@ no_potentials n columns costs sum same zeros one = record {
 
 pub all_potentials : (n : ℕ) (columns : ℕ → ℕ → ℤ) (costs : ℕ → ℤ) (sum : Potentials) → IsPotentials n columns (front n costs) sum → IsPotentials n columns costs sum
 all_potentials n columns costs sum is = record {
-  same = is.same;
-  priced = record { some = is.priced.some; meets = λ j lt. is.priced.meets j lt ∙ ap (λ (z : ℤ). pos sum.denominator *ℤ z) (front_is n j costs lt) };
+  sized = is.sized;
+  priced = record { positive = is.priced.positive; meets = λ j lt. is.priced.meets j lt ∙ ap (λ (z : ℤ). pos sum.denominator *ℤ z) (front_is n j costs lt) };
   reduced = is.reduced;
 }

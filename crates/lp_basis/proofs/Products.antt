@@ -6,8 +6,8 @@ use Rattle.std.proofs.lemmas.Int.{ints, fits_signed_from_abs}
 use Rattle.std.proofs.lemmas.Bool.{cases_eq}
 use Rattle.std.proofs.Math.Nat.{mul-le-mul_left}
 use Rattle.cal_math.specs.Whole.{abs-*ℤ-le}
-use Rattle.lp_laws.specs.Vectors.{sum_to, dot}
-use Rattle.lp_basis.specs.Rows.{at, FitsProduct}
+use Rattle.cal_math.specs.Vectors.{at, sum_to, dot}
+use Rattle.lp_basis.specs.Rows.{FitsProduct}
 
 pub dot_small : (n m : ℕ) (r x : ℕ → ℤ) → ((c : ℕ) → unsigned_abs (r c) ≤ m) → ((c : ℕ) → pos 0 ≤ℤ x c) → (pos 0 ≤ℤ sum_to n x) × (unsigned_abs (dot n r x) ≤ m * unsigned_abs (sum_to n x))
 unfolding dot

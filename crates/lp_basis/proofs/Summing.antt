@@ -11,7 +11,7 @@ use Rattle.std.proofs.lemmas.Nat.{div-add-mod', mul-le}
 use Rattle.std.proofs.lemmas.Nat.Gcd.{le_of_dvd, mod-eq-zero_of_dvd}
 use Rattle.std.proofs.Math.Nat.{dvd-mul_right, mul-le-mul_right}
 use Rattle.lp_laws.specs.Bases.{IsReduced}
-use Rattle.lp_basis.specs.Rows.{at}
+use Rattle.cal_math.specs.Vectors.{at}
 use Rattle.lp_basis.specs.Potentials.{IsPart, AreParts, IsDivisor, AreSmall, number_at, IsSummed, FitsSum}
 use Rattle.lp_basis.specs.declared.potential.Part.{Part}
 use Rattle.cal_math.specs.Whole.{*ℤ-+ℤ, *ℤ--ℤ, *ℤ_comm, *ℤ_assoc, *ℤ_left}
@@ -34,7 +34,7 @@ part_is number summand f g large own r l carry rest r_is l_is sum =
 pub IsPart-from : (number summand f g w : ℤ) (large own r l carry rest : ℕ) → pos r ≡ number -ℤ pos large *ℤ f → pos l ≡ summand -ℤ pos own *ℤ g → carry * (large * own) + rest ≡ r * own + l * large →
     w ≡ (f +ℤ g) +ℤ pos carry → rest < large * own → IsPart number large summand own (record { whole = w; rest = rest })
 IsPart-from number summand f g w large own r l carry rest r_is l_is sum w_is below = record {
-  is = ap (λ (z : ℤ). z *ℤ pos (large * own) +ℤ pos rest) w_is ∙ part_is number summand f g large own r l carry rest r_is l_is sum;
+  exact = ap (λ (z : ℤ). z *ℤ pos (large * own) +ℤ pos rest) w_is ∙ part_is number summand f g large own r l carry rest r_is l_is sum;
   below = below;
 }
 
@@ -92,8 +92,8 @@ IsSummed-from n numbers row large own cost parts divisor f large_some own_some a
     let zero : Part = record { whole = pos 0; rest = 0 } in
     let all_some : 1 ≤ large * own = omega (arith, mul-le 1 1 large own large_some own_some) in
     record {
-      some = some_quotient (large * own) divisor all_some is.divides_all;
-      is = λ c lt. ap (λ (z : ℤ). (pos large *ℤ pos own) *ℤ z) (f_is c zero lt) ∙ sum_is (at numbers c) (get_or parts c zero).whole cost (at row c) large own (get_or parts c zero).rest divisor is.divides_all (is.divides c zero lt) (are c zero lt).is;
+      positive = some_quotient (large * own) divisor all_some is.divides_all;
+      exact = λ c lt. ap (λ (z : ℤ). (pos large *ℤ pos own) *ℤ z) (f_is c zero lt) ∙ sum_is (at numbers c) (get_or parts c zero).whole cost (at row c) large own (get_or parts c zero).rest divisor is.divides_all (is.divides c zero lt) (are c zero lt).exact;
       reduced = λ h first each.
           let d : ℕ = large * own / divisor in
           let d_is : d ≡ h * unsigned_abs first.0 = ap unsigned_abs (sym first.1) ∙ unsigned_abs-mul (pos h) first.0 in

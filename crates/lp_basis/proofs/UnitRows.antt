@@ -3,7 +3,7 @@ use Rattle.std.proofs.Common.{◌≡◌, ℕ, ◌<◌, ◌≤◌, ◌^◌, ◌�
 use Rattle.std.specs.Prelude.{ℤ, pos}
 use Rattle.lp_laws.proofs.Units.{IsBasis-units, IsPrimitive-unit, IsPlain-units}
 use Rattle.lp_laws.specs.Bases.{IsUnit}
-use Rattle.lp_basis.specs.Rows.{at}
+use Rattle.cal_math.specs.Vectors.{at}
 use Rattle.lp_basis.specs.Held.{IsHeld, numbers_at, own_at}
 use Rattle.lp_basis.specs.Steps.{IsUnitRow}
 use Rattle.lp_basis.specs.declared.row.Row.{Row}
@@ -16,11 +16,11 @@ held_from : (n w : ℕ) (columns : ℕ → ℕ → ℤ) (rows : List Row) (d : R
     ((j : ℕ) (d : Row) → j < n → IsUnitRow n j (get_or rows j d)) → IsHeld n w columns rows
 held_from n w columns rows d size some room units count each = record {
   count = count;
-  lengths = λ j lt. ap length (read j lt).0 ∙ (each j d lt).same;
+  lengths = λ j lt. ap length (read j lt).0 ∙ (each j d lt).sized;
   basis = IsBasis-units n columns (λ j. at (numbers_at rows j)) (own_at rows) units unit_rows (λ j lt. (read j lt).1 ∙ (each j d lt).one);
   primitive = λ j lt. IsPrimitive-unit n j (at (numbers_at rows j)) lt (unit_rows j lt);
   plain = IsPlain-units n w columns some units;
-  some = size;
+  positive = size;
   wide = some;
   room = room;
 }

@@ -3,7 +3,7 @@ use Rattle.std.specs.Prelude.{◌≡◌, ℕ, suc, ◌*◌, ◌<◌, ◌≤◌, 
 use Rattle.std.specs.Prelude.{ℤ, pos, ◌+ℤ◌, ◌*ℤ◌, ◌≤ℤ◌, unsigned_abs}
 use Rattle.std.specs.Int.{◌∣◌}
 use Rattle.lp_laws.specs.Bases.{IsPriced, IsReduced}
-use Rattle.lp_basis.specs.Rows.{at}
+use Rattle.cal_math.specs.Vectors.{at}
 use Rattle.lp_basis.specs.Held.{IsHeld}
 use Rattle.lp_basis.specs.declared.row.Row.{Row}
 use Rattle.lp_basis.specs.declared.potential.Part.{Part}
@@ -11,19 +11,21 @@ use Rattle.lp_basis.specs.declared.potential.Potentials.{Potentials}
 
 -- number / large + summand / own as a whole number and a rest over large * own
 pub record IsPart (number : ℤ) (large : ℕ) (summand : ℤ) (own : ℕ) (part : Part) : Type 0 where
-  pub is : part.whole *ℤ pos (large * own) +ℤ pos part.rest ≡ pos own *ℤ number +ℤ pos large *ℤ summand
+  pub exact : part.whole *ℤ pos (large * own) +ℤ pos part.rest ≡ pos own *ℤ number +ℤ pos large *ℤ summand
   pub below : part.rest < large * own
 
 -- each number with cost * row / own more
 abbrev pub AreParts : ℕ → List ℤ → ℕ → ℤ → List ℤ → ℕ → List Part → Type 0
 AreParts n numbers large cost row own parts =
-    (c : ℕ) (d : Part) → c < n → IsPart (at numbers c) large (cost *ℤ at row c) own (get_or parts c d)
+    (c : ℕ) (d : Part) → c < n →
+    IsPart (at numbers c) large (cost *ℤ at row c) own (get_or parts c d)
 
 -- the greatest number that divides `all` and the first n rests
 pub record IsDivisor (parts : List Part) (all n divisor : ℕ) : Type 0 where
   pub divides_all : divisor ∣ all
   pub divides : (c : ℕ) (d : Part) → c < n → divisor ∣ (get_or parts c d).rest
-  pub greatest : (h : ℕ) → h ∣ all → ((c : ℕ) (d : Part) → c < n → h ∣ (get_or parts c d).rest) → h ∣ divisor
+  pub greatest : (h : ℕ) → h ∣ all → ((c : ℕ) (d : Part) → c < n → h ∣ (get_or parts c d).rest) →
+      h ∣ divisor
 
 -- the number of which these are the whole part and the rest, over `divisor` times the denominator
 abbrev pub number_at : Part → ℕ → ℕ → ℤ
@@ -38,13 +40,14 @@ AreSmall parts denominator divisor =
 -- numbers' / d' is numbers / d with cost * row / own more, and d' has no divisor above 1 in common with all of numbers'
 pub record IsSummed (n : ℕ) (numbers : ℕ → ℤ) (d : ℕ) (cost : ℤ) (row : ℕ → ℤ) (own : ℤ)
     (numbers' : ℕ → ℤ) (d' : ℕ) : Type 0 where
-  pub some : 1 ≤ d'
-  pub is : (c : ℕ) → c < n → (pos d *ℤ own) *ℤ numbers' c ≡ pos d' *ℤ (own *ℤ numbers c +ℤ pos d *ℤ (cost *ℤ row c))
+  pub positive : 1 ≤ d'
+  pub exact : (c : ℕ) → c < n →
+      (pos d *ℤ own) *ℤ numbers' c ≡ pos d' *ℤ (own *ℤ numbers c +ℤ pos d *ℤ (cost *ℤ row c))
   pub reduced : IsReduced n numbers' d'
 
 -- when the sum fits: what goes in is small, and whatever the sum is, it is small too
 pub record FitsSum (numbers : List ℤ) (d : ℕ) (cost : ℤ) (row : List ℤ) (own : ℤ) : Type 0 where
-  pub same : length row ≡ length numbers
+  pub sized : length row ≡ length numbers
   pub d_some : 1 ≤ d
   pub d_small : d ≤ 2 ^ 62
   pub own_some : pos 1 ≤ℤ own
@@ -58,16 +61,18 @@ pub record FitsSum (numbers : List ℤ) (d : ℕ) (cost : ℤ) (row : List ℤ) 
       ((c : ℕ) → c < length numbers → unsigned_abs (numbers' c) ≤ 2 ^ 100)
 
 -- the rows of a basis of n columns, costs of magnitudes at most s, and room for w^n * s
-pub record CanPrice (b w s : ℕ) (columns : ℕ → ℕ → ℤ) (rows : List Row) (costs : List ℤ) : Type 0 where
+pub record CanPrice (b w s : ℕ) (columns : ℕ → ℕ → ℤ) (rows : List Row)
+    (costs : List ℤ) : Type 0 where
   pub held : IsHeld (suc b) w columns rows
   pub few : b < 8
-  pub same : length costs ≡ suc b
+  pub sized : length costs ≡ suc b
   pub small : (j : ℕ) → unsigned_abs (at costs j) ≤ s
   pub cost_room : s ≤ 2 ^ 55
   pub room : w ^ suc b * s ≤ 2 ^ 94
 
 -- the potentials of n columns with these costs, over their least denominator
-pub record IsPotentials (n : ℕ) (columns : ℕ → ℕ → ℤ) (costs : ℕ → ℤ) (potentials : Potentials) : Type 0 where
-  pub same : length potentials.numbers.items ≡ n
+pub record IsPotentials (n : ℕ) (columns : ℕ → ℕ → ℤ) (costs : ℕ → ℤ)
+    (potentials : Potentials) : Type 0 where
+  pub sized : length potentials.numbers.items ≡ n
   pub priced : IsPriced n n columns costs (at potentials.numbers.items) potentials.denominator
   pub reduced : IsReduced n (at potentials.numbers.items) potentials.denominator

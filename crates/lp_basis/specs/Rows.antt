@@ -1,15 +1,11 @@
 -- Lists of whole numbers as vectors, and when their products fit 128 bits.
-use Rattle.std.specs.Prelude.{◌≡◌, ℕ, ◌*◌, ◌<◌, ◌≤◌, ◌^◌, List, length, slice_index_or}
+use Rattle.std.specs.Prelude.{◌≡◌, ℕ, ◌*◌, ◌<◌, ◌≤◌, ◌^◌, List, length}
 use Rattle.std.specs.Prelude.{ℤ, pos, ◌≤ℤ◌, unsigned_abs}
-use Rattle.lp_laws.specs.Vectors.{sum_to}
-
--- the number at c, and 0 past the end
-abbrev pub at : List ℤ → ℕ → ℤ
-at numbers c = slice_index_or numbers c (pos 0)
+use Rattle.cal_math.specs.Vectors.{at, sum_to}
 
 -- a row of magnitudes at most m meets a column of numbers of at least 0 whose sum is at most w
 pub record FitsProduct (m w : ℕ) (row column : List ℤ) : Type 0 where
-  pub same : length row ≡ length column
+  pub sized : length row ≡ length column
   pub row_small : (c : ℕ) → unsigned_abs (at row c) ≤ m
   pub least : (c : ℕ) → pos 0 ≤ℤ at column c
   pub sum : sum_to (length row) (at column) ≤ℤ pos w

@@ -1,20 +1,23 @@
 ghost use Rattle.std.specs.Prelude.{◌≡◌, ℕ, suc, ◌+◌, ◌*◌, ◌<◌, ◌≤◌, ◌^◌};
 ghost use Rattle.std.specs.Prelude.{length, ℤ, pos, ◌*ℤ◌, ◌+ℤ◌, ◌-ℤ◌, ◌≤ℤ◌, FitsSigned, IfOk, unsigned_abs};
 ghost use Rattle.std.specs.Int.{w128};
-ghost use Rattle.lp_laws.specs.Vectors.{dot};
-ghost use Rattle.lp_basis.specs.Rows.{at, FitsProduct, FitsMixed};
+ghost use Rattle.cal_math.specs.Vectors.{at, dot};
+ghost use Rattle.lp_basis.specs.Rows.{FitsProduct, FitsMixed};
 ghost use Rattle.lp_basis.specs.Held.{CanEnter, IsPut, IsHeld, CanExchange, IsExchanged};
 ghost use Rattle.lp_basis.specs.Steps.{IsNext, Keeps, CanPlace, IsPlaced};
 
-use crate::row::{Row, divided, mixed, product, quotient, shared, times};
+use crate::row::{Row, divided, mixed, product, shared};
+use cal_whole::{exact_quotient, times};
 use std::alloc::{AllocError, Global};
 
 /// The greatest number that divides all numbers of a row, of which one is not 0.
 fn divisor_of(row: &[i128]) -> i128
-    requires { (c : ℕ) × (c < length row.now) × (1 ≤ unsigned_abs (at row.now c)) × (unsigned_abs (at row.now c) < 2 ^ 127) }
-    ensures some { pos 1 ≤ℤ result }
+    requires { (c : ℕ) × (c < length row.now) × (1 ≤ unsigned_abs (at row.now c))
+        × (unsigned_abs (at row.now c) < 2 ^ 127) }
+    ensures positive { pos 1 ≤ℤ result }
     ensures divides { (c : ℕ) → c < length row.now → (t : ℤ) × (result *ℤ t ≡ at row.now c) }
-    ensures greatest { (d : ℕ) → ((c : ℕ) → c < length row.now → (t : ℤ) × (pos d *ℤ t ≡ at row.now c)) → pos d ≤ℤ result }
+    ensures greatest { (d : ℕ) →
+        ((c : ℕ) → c < length row.now → (t : ℤ) × (pos d *ℤ t ≡ at row.now c)) → pos d ≤ℤ result }
 {
     shared(row) as i128
 }
@@ -28,18 +31,18 @@ fn next_row(
     q: i128,
     mine: &[i128],
 ) -> Result<Row, AllocError>
-    requires same { length row.now ≡ length mine.now }
+    requires sized { length row.now ≡ length mine.now }
     requires fits { (m : ℕ) × (r : ℕ) × FitsMixed m r p row.now q mine.now }
     requires own_fits { FitsSigned w128 (p *ℤ own) }
     requires keeps { Keeps p row.now own mine.now }
-    ensures same { IfOk result (λ next. length next.numbers.items ≡ length row.now) }
-    ensures is { IfOk result (λ next. IsNext p row.now own q mine.now next.numbers.items next.own) }
+    ensures sized { IfOk result (λ next. length next.numbers.items ≡ length row.now) }
+    ensures exact { IfOk result (λ next. IsNext p row.now own q mine.now next.numbers.items next.own) }
 {
     let all_of = times(p, own);
     let numbers = mixed(alloc, p, row, q, mine)?;
     let all = divisor_of(&numbers);
     let less = divided(alloc, &numbers, all)?;
-    let own = quotient(all_of, all);
+    let own = exact_quotient(all_of, all);
     Ok(Row { numbers: less, own })
 }
 
@@ -54,7 +57,8 @@ fn placed(
     column: &[i128],
 ) -> Result<Row, AllocError>
     requires within { j < length rows.now }
-    requires can { (b : ℕ) × (w : ℕ) × (columns : ℕ → ℕ → ℤ) × CanPlace b w columns rows.now i p mine.now column.now }
+    requires can { (b : ℕ) × (w : ℕ) × (columns : ℕ → ℕ → ℤ)
+        × CanPlace b w columns rows.now i p mine.now column.now }
     ensures { IfOk result (λ next. IsPlaced i j (length column.now) p mine.now column.now rows.now next) }
 {
     if j == i {

@@ -3,18 +3,12 @@
 
 mod basis;
 mod column;
-mod divisor;
 mod potential;
-mod ratio;
 mod row;
-#[cfg(test)]
-mod tests;
 mod unit;
 
 pub use basis::exchange;
 pub use column::{Column, sum_of};
-pub use divisor::gcd;
 pub use potential::{Potentials, potentials_of};
-pub use ratio::{compare, compare_signed};
-pub use row::{Row, product, times};
+pub use row::{Row, product};
 pub use unit::{unit_row, units};

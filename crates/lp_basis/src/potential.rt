@@ -1,13 +1,12 @@
 ghost use Rattle.std.specs.Prelude.{◌≡◌, ℕ, suc, ◌+◌, ◌*◌, ◌<◌, ◌≤◌, ◌^◌};
 ghost use Rattle.std.specs.Prelude.{length, ℤ, pos, ◌*ℤ◌, ◌+ℤ◌, ◌≤ℤ◌, FitsSigned, IfOk, unsigned_abs, ◌/◌, get_or};
 ghost use Rattle.std.specs.Int.{w128, ◌∣◌};
-ghost use Rattle.lp_basis.specs.Rows.{at};
+ghost use Rattle.cal_math.specs.Vectors.{at};
 ghost use Rattle.lp_basis.specs.declared.potential.Part.{Part};
 ghost use Rattle.lp_basis.specs.Potentials.{IsPart, AreParts, IsDivisor, AreSmall, number_at, IsSummed, FitsSum, CanPrice, IsPotentials};
 
-use crate::divisor::gcd;
-use crate::ratio::{floor_of, rest_of};
-use crate::row::{Row, times};
+use crate::row::Row;
+use cal_whole::{floor_quotient, floor_rest, gcd, times};
 use std::alloc::{AllocError, Global};
 
 /// Potentials of a basis, over their least common denominator.
@@ -59,10 +58,10 @@ fn part_of(number: i128, large: u128, summand: i128, own: u128) -> Part
     requires summand_small { unsigned_abs summand ≤ 2 ^ 118 }
     ensures { IsPart number large summand own result }
 {
-    let whole = floor_of(number, large as i128);
-    let rest = rest_of(number, large as i128);
-    let also = floor_of(summand, own as i128);
-    let left = rest_of(summand, own as i128);
+    let whole = floor_quotient(number, large as i128);
+    let rest = floor_rest(number, large as i128);
+    let also = floor_quotient(summand, own as i128);
+    let left = floor_rest(summand, own as i128);
     let (carry, rest) = joined(rest, large, left, own);
     Part {
         whole: carried(whole, also, carry),
@@ -80,8 +79,8 @@ fn parts_of(
     own: u128,
 ) -> Result<Vec<Part>, AllocError>
     requires { FitsSum numbers.now large cost row.now (pos own) }
-    ensures same { IfOk result (λ parts. length parts.items ≡ length numbers.now) }
-    ensures are { IfOk result (λ parts. AreParts (length numbers.now) numbers.now large cost row.now own parts.items) }
+    ensures sized { IfOk result (λ parts. length parts.items ≡ length numbers.now) }
+    ensures every { IfOk result (λ parts. AreParts (length numbers.now) numbers.now large cost row.now own parts.items) }
 {
     let mut parts = Vec::new(alloc);
     'parts: for c in 0..numbers.len() {
@@ -124,8 +123,8 @@ fn numbers_of(
     requires divisor { 1 ≤ divisor }
     requires denominator_small { denominator ≤ 2 ^ 62 }
     requires fit { AreSmall parts.now denominator divisor }
-    ensures same { IfOk result (λ v. length v.items ≡ length parts.now) }
-    ensures are { IfOk result (λ v. (c : ℕ) (d : Part) → c < length parts.now →
+    ensures sized { IfOk result (λ v. length v.items ≡ length parts.now) }
+    ensures every { IfOk result (λ v. (c : ℕ) (d : Part) → c < length parts.now →
         at v.items c ≡ number_at (get_or parts.now c d) denominator divisor) }
 {
     let mut numbers = Vec::new(alloc);
@@ -147,7 +146,7 @@ fn added(
     own: u128,
 ) -> Result<Potentials, AllocError>
     requires { FitsSum numbers.now denominator cost row.now (pos own) }
-    ensures same { IfOk result (λ next. length next.numbers.items ≡ length numbers.now) }
+    ensures sized { IfOk result (λ next. length next.numbers.items ≡ length numbers.now) }
     ensures summed { IfOk result (λ next. IsSummed (length numbers.now) (at numbers.now) denominator cost (at row.now) (pos own)
         (at next.numbers.items) next.denominator) }
 {
@@ -164,8 +163,8 @@ fn added(
 
 /// As many zeros.
 fn zeros(alloc: Global, size: usize) -> Result<Vec<i128>, AllocError>
-    ensures same { IfOk result (λ v. length v.items ≡ size) }
-    ensures are { IfOk result (λ v. (c : ℕ) → at v.items c ≡ pos 0) }
+    ensures sized { IfOk result (λ v. length v.items ≡ size) }
+    ensures every { IfOk result (λ v. (c : ℕ) → at v.items c ≡ pos 0) }
 {
     let mut numbers = Vec::new(alloc);
     'zeros: for _c in 0..size {
@@ -176,7 +175,8 @@ fn zeros(alloc: Global, size: usize) -> Result<Vec<i128>, AllocError>
 
 /// The potentials of a basis: the sum over its places of cost times row over own product.
 pub fn potentials_of(alloc: Global, rows: &[Row], costs: &[i128]) -> Result<Potentials, AllocError>
-    requires { (b : ℕ) × (w : ℕ) × (s : ℕ) × (columns : ℕ → ℕ → ℤ) × CanPrice b w s columns rows.now costs.now }
+    requires { (b : ℕ) × (w : ℕ) × (s : ℕ) × (columns : ℕ → ℕ → ℤ)
+        × CanPrice b w s columns rows.now costs.now }
     ensures { IfOk result (λ potentials. (b w s : ℕ) (columns : ℕ → ℕ → ℤ) →
         CanPrice b w s columns rows.now costs.now →
         IsPotentials (suc b) columns (at costs.now) potentials) }

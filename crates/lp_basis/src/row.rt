@@ -1,10 +1,10 @@
 ghost use Rattle.std.specs.Prelude.{◌≡◌, ℕ, ◌+◌, ◌*◌, ◌<◌, ◌≤◌};
 ghost use Rattle.std.specs.Prelude.{length, ℤ, pos, ◌*ℤ◌, ◌+ℤ◌, ◌-ℤ◌, ◌≤ℤ◌, FitsSigned, IfOk, unsigned_abs};
 ghost use Rattle.std.specs.Int.{w128, ◌∣◌};
-ghost use Rattle.lp_laws.specs.Vectors.{dot};
-ghost use Rattle.lp_basis.specs.Rows.{at, FitsProduct, FitsMixed};
+ghost use Rattle.cal_math.specs.Vectors.{at, dot};
+ghost use Rattle.lp_basis.specs.Rows.{FitsProduct, FitsMixed};
 
-use crate::divisor::gcd;
+use cal_whole::{exact_quotient, gcd, minus, plus, times};
 use std::alloc::{AllocError, Global};
 
 /// A row of whole numbers without a common divisor above 1, and its product with the column of its place.
@@ -14,15 +14,6 @@ pub struct Row {
     pub own: i128,
 }
 
-/// The sum with one more product.
-fn add_product(sum: i128, a: i128, b: i128) -> i128
-    requires product_fits { FitsSigned w128 (a *ℤ b) }
-    requires sum_fits { FitsSigned w128 (sum +ℤ a *ℤ b) }
-    ensures { result ≡ sum +ℤ a *ℤ b }
-{
-    sum + a * b
-}
-
 /// The product of a row with a column.
 pub fn product(row: &[i128], column: &[i128]) -> i128
     requires { (m : ℕ) × (w : ℕ) × FitsProduct m w row.now column.now }
@@ -30,19 +21,10 @@ pub fn product(row: &[i128], column: &[i128]) -> i128
 {
     let mut sum = 0;
     'sum: for i in 0..row.len() {
-        sum = add_product(sum, row[i], column[i]);
+        let summand = times(row[i], column[i]);
+        sum = plus(sum, summand);
     }
     sum
-}
-
-/// The first multiple less the second.
-fn difference(p: i128, a: i128, q: i128, b: i128) -> i128
-    requires first { FitsSigned w128 (p *ℤ a) }
-    requires second { FitsSigned w128 (q *ℤ b) }
-    requires both { FitsSigned w128 (p *ℤ a -ℤ q *ℤ b) }
-    ensures { result ≡ p *ℤ a -ℤ q *ℤ b }
-{
-    p * a - q * b
 }
 
 /// A multiple of the row less a multiple of another.
@@ -53,14 +35,17 @@ pub fn mixed(
     q: i128,
     other: &[i128],
 ) -> Result<Vec<i128>, AllocError>
-    requires same { length row.now ≡ length other.now }
+    requires sized { length row.now ≡ length other.now }
     requires fits { (m : ℕ) × (r : ℕ) × FitsMixed m r p row.now q other.now }
-    ensures same { IfOk result (λ v. length v.items ≡ length row.now) }
-    ensures is { IfOk result (λ v. (c : ℕ) → c < length row.now → at v.items c ≡ p *ℤ at row.now c -ℤ q *ℤ at other.now c) }
+    ensures sized { IfOk result (λ v. length v.items ≡ length row.now) }
+    ensures exact { IfOk result (λ v. (c : ℕ) → c < length row.now →
+        at v.items c ≡ p *ℤ at row.now c -ℤ q *ℤ at other.now c) }
 {
     let mut numbers = Vec::new(alloc);
     'mix: for i in 0..row.len() {
-        let number = difference(p, row[i], q, other[i]);
+        let first = times(p, row[i]);
+        let second = times(q, other[i]);
+        let number = minus(first, second);
         numbers.push(number)?;
     }
     Ok(numbers)
@@ -69,7 +54,8 @@ pub fn mixed(
 /// The greatest number that divides all numbers of the row, 0 where all are 0.
 pub fn shared(row: &[i128]) -> u128
     ensures divides { (c : ℕ) → c < length row.now → result ∣ unsigned_abs (at row.now c) }
-    ensures greatest { (d : ℕ) → ((c : ℕ) → c < length row.now → d ∣ unsigned_abs (at row.now c)) → d ∣ result }
+    ensures greatest { (d : ℕ) → ((c : ℕ) → c < length row.now → d ∣ unsigned_abs (at row.now c)) →
+        d ∣ result }
 {
     let mut all = 0;
     'share: for i in 0..row.len() {
@@ -79,34 +65,18 @@ pub fn shared(row: &[i128]) -> u128
     all
 }
 
-/// The quotient of a number and one that divides it.
-pub fn quotient(a: i128, d: i128) -> i128
-    requires some { pos 1 ≤ℤ d }
-    requires divides { (t : ℤ) × (d *ℤ t ≡ a) }
-    ensures { d *ℤ result ≡ a }
-{
-    a / d
-}
-
 /// The row divided by a number that divides all its numbers.
 pub fn divided(alloc: Global, row: &[i128], d: i128) -> Result<Vec<i128>, AllocError>
-    requires some { pos 1 ≤ℤ d }
+    requires positive { pos 1 ≤ℤ d }
     requires divides { (c : ℕ) → c < length row.now → (t : ℤ) × (d *ℤ t ≡ at row.now c) }
-    ensures same { IfOk result (λ v. length v.items ≡ length row.now) }
-    ensures is { IfOk result (λ v. (c : ℕ) → c < length row.now → d *ℤ at v.items c ≡ at row.now c) }
+    ensures sized { IfOk result (λ v. length v.items ≡ length row.now) }
+    ensures exact { IfOk result (λ v. (c : ℕ) → c < length row.now →
+        d *ℤ at v.items c ≡ at row.now c) }
 {
     let mut numbers = Vec::new(alloc);
     'divide: for i in 0..row.len() {
-        let number = quotient(row[i], d);
+        let number = exact_quotient(row[i], d);
         numbers.push(number)?;
     }
     Ok(numbers)
-}
-
-/// The product of two numbers.
-pub fn times(a: i128, b: i128) -> i128
-    requires { FitsSigned w128 (a *ℤ b) }
-    ensures { result ≡ a *ℤ b }
-{
-    a * b
 }

@@ -1,6 +1,6 @@
 ghost use Rattle.std.specs.Prelude.{◌≡◌, ℕ, ◌<◌, ◌≤◌, ◌^◌, length, ℤ, IfOk};
 ghost use Rattle.lp_laws.specs.Bases.{IsUnit};
-ghost use Rattle.lp_basis.specs.Rows.{at};
+ghost use Rattle.cal_math.specs.Vectors.{at};
 ghost use Rattle.lp_basis.specs.Held.{IsHeld};
 
 use crate::row::Row;
@@ -9,7 +9,7 @@ use std::alloc::{AllocError, Global};
 /// 1 at the component, 0 at every other.
 pub fn unit_row(alloc: Global, size: usize, component: usize) -> Result<Vec<i128>, AllocError>
     requires { component < size }
-    ensures same { IfOk result (λ row. length row.items ≡ size) }
+    ensures sized { IfOk result (λ row. length row.items ≡ size) }
     ensures unit { IfOk result (λ row. IsUnit size component (at row.items)) }
 {
     let mut numbers = Vec::new(alloc);

@@ -5,13 +5,12 @@ use Rattle.std.proofs.lemmas.Int.{ints}
 use Rattle.std.proofs.lemmas.List.{length-replicate}
 use Rattle.std.proofs.lemmas.Bool.{cases_lt}
 use Rattle.std.proofs.Math.Nat.{mul-le-mul_left}
-use Rattle.lp_laws.proofs.Sums.{dot-comm, dot_one}
+use Rattle.cal_math.specs.Vectors.{at, dot}
+use Rattle.cal_math.proofs.Products.{least-*ℤ}
+use Rattle.cal_math.proofs.Vectors.{dot-comm, dot_one}
 use Rattle.lp_laws.proofs.Bounds.{number-le}
 use Rattle.lp_laws.proofs.Units.{dot_unit_column}
-use Rattle.lp_laws.proofs.Idle.{least-*ℤ}
-use Rattle.lp_laws.specs.Vectors.{dot}
 use Rattle.lp_laws.specs.Bases.{IsUnit}
-use Rattle.lp_basis.specs.Rows.{at}
 use Rattle.lp_basis.specs.Columns.{IsColumn}
 use Rattle.lp_basis.specs.Held.{IsHeld, numbers_at, own_at}
 use Rattle.lp_basis.proofs.Held.{at_past}
@@ -37,7 +36,7 @@ column_start n [] fine k lt = absurd (omega arith)
 column_start n (x ∷ columns) fine k lt =
     let column = fine k x lt in
     let sum = sum-le_widest n k (x ∷ columns) x lt in
-    rw (amounts_get (x ∷ columns) k x lt) (record { same = column.same; least = column.least; sum = omega (arith, ints, sum, column.some) })
+    rw (amounts_get (x ∷ columns) k x lt) (record { sized = column.sized; least = column.least; sum = omega (arith, ints, sum, column.positive) })
 
 pub cost_small_first : (columns : List Column) (place : Option ℕ) → unsigned_abs (cost_at First columns place) ≤ 1
 cost_small_first columns None = omega arith
@@ -161,7 +160,7 @@ meets_target b w s phase columns target stage can j lt =
       w ^ b,
       2 ^ 53,
       record {
-        same = held.lengths j within ∙ sym can.size;
+        sized = held.lengths j within ∙ sym can.size;
         row_small = small;
         least = can.aim.least;
         sum = rw (held.lengths j within) (target_sum b target can.size can.aim);

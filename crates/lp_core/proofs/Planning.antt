@@ -8,15 +8,14 @@ use Rattle.std.proofs.lemmas.Nat.{mul-le}
 use Rattle.std.proofs.lemmas.Nat.Gcd.{le_of_dvd}
 use Rattle.std.proofs.lemmas.List.{get_or_default}
 use Rattle.cal_math.specs.Whole.{*ℤ-≤, *ℤ_comm}
-use Rattle.lp_laws.proofs.Sums.{sum-same}
-use Rattle.lp_laws.proofs.Idle.{least-*ℤ}
+use Rattle.cal_math.specs.Vectors.{at, sum_to, dot}
+use Rattle.cal_math.proofs.Products.{least-*ℤ}
+use Rattle.cal_math.proofs.Vectors.{sum-same}
 use Rattle.lp_laws.proofs.Own.{own-le}
 use Rattle.lp_laws.proofs.Parts.{parts-le}
 use Rattle.lp_laws.proofs.Reduced.{reduced_denominator-le, reduced_potential-le}
 use Rattle.lp_laws.proofs.Weights.{weights_add}
-use Rattle.lp_laws.specs.Vectors.{sum_to, dot}
 use Rattle.lp_laws.specs.Bases.{IsWholeAt}
-use Rattle.lp_basis.specs.Rows.{at}
 use Rattle.lp_basis.specs.Held.{numbers_at, own_at}
 use Rattle.lp_basis.specs.declared.column.Column.{Column}
 use Rattle.lp_stage.specs.Leaving.{amounts_at}
@@ -24,13 +23,13 @@ use Rattle.lp_stage.specs.Stages.{column_at, known_cost, cost_at, IsKnown, basis
 use Rattle.lp_stage.specs.declared.phase.Phase.TheVariants.{Second}
 use Rattle.lp_stage.specs.declared.stage.Stage.{Stage}
 use Rattle.lp_core.specs.Fitting.{widest, dearest}
-use Rattle.lp_core.specs.Plans.{Weight, given, IsFeasible, IsPlan}
-use Rattle.lp_core.specs.Ends.{met_by, IsLast}
-use Rattle.lp_core.specs.Weights.{CanWeigh, AreFractions, IsCommon, FitsCommon, over, weight_at, value_of, FitsWeights, AreWeights}
+use Rattle.lp_core.specs.Plans.{Weight, given_amount, IsFeasible, IsPlan}
+use Rattle.lp_core.specs.Ends.{target_product, IsLast}
+use Rattle.lp_core.specs.Weights.{CanWeigh, AreFractions, IsCommon, FitsCommon, numerator_over, weight_at, value_of, FitsWeights, AreWeights}
 use Rattle.lp_core.specs.declared.plan.Plan.{Plan}
 use Rattle.lp_core.specs.declared.weight.Fraction.{Fraction}
 use Rattle.lp_core.proofs.Beginning.{cost_small_second}
-use Rattle.lp_core.proofs.Divisors.{dvd_from, times_quotient}
+use Rattle.cal_math.proofs.Divisors.{dvd_from, times_quotient}
 use Rattle.lp_core.proofs.Weighing.{weight_read}
 
 nothing : Fraction
@@ -42,7 +41,7 @@ pub can_weigh : (b : ℕ) (columns : List Column) (target : List ℤ) (stage : S
 can_weigh b columns target stage last = record { held = last.basis.held; size = last.size; aim = last.fits.aim; least = last.reached.least }
 
 -- the product of the row at a place with the target, over n components
-met_is : (b : ℕ) (columns : List Column) (target : List ℤ) (stage : Stage) → IsLast b columns target stage → (j : ℕ) → met_by stage.rows.items target j ≡ dot (suc b) (at (numbers_at stage.rows.items j)) (at target)
+met_is : (b : ℕ) (columns : List Column) (target : List ℤ) (stage : Stage) → IsLast b columns target stage → (j : ℕ) → target_product stage.rows.items target j ≡ dot (suc b) (at (numbers_at stage.rows.items j)) (at target)
 met_is b columns target stage last j = ap (λ (n : ℕ). dot n (at (numbers_at stage.rows.items j)) (at target)) last.size
 
 -- a number that makes all weights whole is a multiple of each denominator
@@ -50,11 +49,11 @@ whole_divides : (b : ℕ) (columns : List Column) (target : List ℤ) (stage : S
     (h : ℕ) → IsWholeAt (suc b) (suc b) (λ j. at (numbers_at stage.rows.items j)) (own_at stage.rows.items) (at target) h → (j : ℕ) (d : Fraction) → j < length fractions → (get_or fractions j d).denominator ∣ h
 unfolding IsWholeAt
 whole_divides b columns target stage fractions last are h whole j d lt =
-    let within : j < suc b = omega (arith, lt, are.same, last.basis.held.count) in
+    let within : j < suc b = omega (arith, lt, are.sized, last.basis.held.count) in
     let e = whole j within in
-    (are.are j d (omega (arith, lt, are.same))).lowest h
-    (dvd_from (unsigned_abs (own_at stage.rows.items j)) (h * unsigned_abs (met_by stage.rows.items target j)) (unsigned_abs e.0)
-    (sym (unsigned_abs-mul (pos h) (met_by stage.rows.items target j)) ∙ ap (λ (z : ℤ). unsigned_abs (pos h *ℤ z)) (met_is b columns target stage last j) ∙ ap unsigned_abs e.1 ∙ unsigned_abs-mul (own_at stage.rows.items j) e.0))
+    (are.every j d (omega (arith, lt, are.sized))).lowest h
+    (dvd_from (unsigned_abs (own_at stage.rows.items j)) (h * unsigned_abs (target_product stage.rows.items target j)) (unsigned_abs e.0)
+    (sym (unsigned_abs-mul (pos h) (target_product stage.rows.items target j)) ∙ ap (λ (z : ℤ). unsigned_abs (pos h *ℤ z)) (met_is b columns target stage last j) ∙ ap unsigned_abs e.1 ∙ unsigned_abs-mul (own_at stage.rows.items j) e.0))
 
 -- what is at most every common multiple of the denominators
 common_bound : (b : ℕ) (columns : List Column) (target : List ℤ) (stage : Stage) (fractions : List Fraction) → IsLast b columns target stage → AreFractions stage.rows.items target fractions →
@@ -65,14 +64,14 @@ common_bound b columns target stage fractions last are p least =
 
 pub fits_common : (b : ℕ) (columns : List Column) (target : List ℤ) (stage : Stage) (fractions : List Fraction) → IsLast b columns target stage → AreFractions stage.rows.items target fractions → FitsCommon fractions
 fits_common b columns target stage fractions last are = record {
-  some = λ j d lt. (are.are j d (omega (arith, lt, are.same))).some;
+  positive = λ j d lt. (are.every j d (omega (arith, lt, are.sized))).positive;
   most = λ j d lt.
-      let within : j < suc b = omega (arith, lt, are.same, last.basis.held.count) in
+      let within : j < suc b = omega (arith, lt, are.sized, last.basis.held.count) in
       let held = last.basis.held in
       omega (
         arith,
         ints,
-        (are.are j d (omega (arith, lt, are.same))).most,
+        (are.every j d (omega (arith, lt, are.sized))).most,
         held.room,
         held.basis.above j within,
         own-le b (widest (suc b) columns) (basis_columns columns stage.places.items) (λ j. at (numbers_at stage.rows.items j)) (own_at stage.rows.items) held.basis held.plain j within (held.primitive j within),
@@ -87,7 +86,7 @@ parts_small b columns target stage fractions parts last are common =
 
 -- ---- the weights of the places
 
-over_own : (above below parts : ℕ) (fraction : Fraction) → fraction.numerator * below ≡ above * fraction.denominator → fraction.denominator ∣ parts → over fraction parts * below ≡ parts * above
+over_own : (above below parts : ℕ) (fraction : Fraction) → fraction.numerator * below ≡ above * fraction.denominator → fraction.denominator ∣ parts → numerator_over fraction parts * below ≡ parts * above
 over_own above below parts fraction is divides =
     let q : ℕ = parts / fraction.denominator in
     let parts_is : parts ≡ fraction.denominator * q = times_quotient fraction.denominator parts divides in
@@ -102,11 +101,11 @@ signs weight parts own met own_some met_least e =
 weight_own : (b : ℕ) (columns : List Column) (target : List ℤ) (stage : Stage) (fractions : List Fraction) (parts : ℕ) → IsLast b columns target stage → AreFractions stage.rows.items target fractions → IsCommon fractions (length fractions) parts →
     (j : ℕ) → j < suc b → pos (weight_at fractions parts j) *ℤ own_at stage.rows.items j ≡ pos parts *ℤ dot (suc b) (at (numbers_at stage.rows.items j)) (at target)
 weight_own b columns target stage fractions parts last are common j lt =
-    let within : j < length fractions = omega (arith, lt, are.same, last.basis.held.count) in
-    let met : ℤ = met_by stage.rows.items target j in
+    let within : j < length fractions = omega (arith, lt, are.sized, last.basis.held.count) in
+    let met : ℤ = target_product stage.rows.items target j in
     let own : ℤ = own_at stage.rows.items j in
-    let lowest = are.are j nothing (omega (arith, lt, last.basis.held.count)) in
-    let product = over_own (unsigned_abs met) (unsigned_abs own) parts (get_or fractions j nothing) lowest.is (common.divides j nothing within) in
+    let lowest = are.every j nothing (omega (arith, lt, last.basis.held.count)) in
+    let product = over_own (unsigned_abs met) (unsigned_abs own) parts (get_or fractions j nothing) lowest.exact (common.divides j nothing within) in
     signs (weight_at fractions parts j) parts own met (last.basis.held.basis.above j lt) (last.reached.least j lt) (ap (λ (v : ℕ). v * unsigned_abs own) (weight_read fractions parts j nothing within) ∙ product)
     ∙ ap (λ (z : ℤ). pos parts *ℤ z) (met_is b columns target stage last j)
 
@@ -175,9 +174,9 @@ apart b columns target stage last i j k p q first second = elim (cases_eq i j) [
 pub fits_weights : (b : ℕ) (columns : List Column) (target : List ℤ) (stage : Stage) (fractions : List Fraction) (parts : ℕ) → IsLast b columns target stage → AreFractions stage.rows.items target fractions → IsCommon fractions (length fractions) parts →
     FitsWeights stage.places.items fractions parts
 fits_weights b columns target stage fractions parts last are common = record {
-  same = are.same ∙ last.basis.held.count ∙ sym last.basis.count;
-  some = λ j d lt. (are.are j d (omega (arith, lt, are.same))).some;
-  small = λ j lt. weight_small b columns target stage fractions parts last are common j (omega (arith, lt, are.same, last.basis.held.count));
+  sized = are.sized ∙ last.basis.held.count ∙ sym last.basis.count;
+  positive = λ j d lt. (are.every j d (omega (arith, lt, are.sized))).positive;
+  small = λ j lt. weight_small b columns target stage fractions parts last are common j (omega (arith, lt, are.sized, last.basis.held.count));
   different = λ i j k p q first second. apart b columns target stage last i j k (omega (arith, p, last.basis.count)) (omega (arith, q, last.basis.count)) first second;
 }
 
@@ -197,7 +196,7 @@ value_is columns None weight j c none = no_weight weight (column_at columns None
 value_is columns (Some k) weight j c none = refl
 
 given_is : (b : ℕ) (columns : List Column) (target : List ℤ) (stage : Stage) (fractions : List Fraction) (parts : ℕ) (weights : List Weight) → IsLast b columns target stage → AreFractions stage.rows.items target fractions →
-    IsCommon fractions (length fractions) parts → AreWeights stage.places.items fractions parts (suc b) weights → (c : ℕ) → c < suc b → given columns weights c ≡ pos parts *ℤ at target c
+    IsCommon fractions (length fractions) parts → AreWeights stage.places.items fractions parts (suc b) weights → (c : ℕ) → c < suc b → given_amount columns weights c ≡ pos parts *ℤ at target c
 given_is b columns target stage fractions parts weights last are common weighed c lt =
     let places : List (Option ℕ) = stage.places.items in
     let weight : ℕ → ℕ = weight_at fractions parts in
@@ -212,7 +211,7 @@ given_is b columns target stage fractions parts weights last are common weighed 
 feasible : (b : ℕ) (columns : List Column) (target : List ℤ) (stage : Stage) (fractions : List Fraction) (parts : ℕ) (weights : List Weight) → IsLast b columns target stage → AreFractions stage.rows.items target fractions →
     IsCommon fractions (length fractions) parts → AreWeights stage.places.items fractions parts (suc b) weights → IsFeasible columns target parts weights
 feasible b columns target stage fractions parts weights last are common weighed = record {
-  some = common.some;
+  positive = common.positive;
   named = λ i d lt.
       let w = weighed.each i d lt in
       (subst (IsKnown (length columns)) w.column (last.basis.known w.place (omega (arith, w.within, last.basis.count))), omega (arith, ints, w.above));
@@ -273,9 +272,9 @@ plan_is b columns target stage fractions parts weights plan last are common all 
       above = rw made.weights_are (λ i d lt. (weighed.each i d lt).above);
       few = rw (made.weights_are, last.size) weighed.few;
       different = rw made.weights_are weighed.different;
-      one_each = rw (made.potentials_are, last.size) last.potentials.same;
-      small = rw (made.potentials_are, last.size, less) (λ c d lt. rw (get_or_default numbers c d (pos 0) lt) (potential_small b columns target stage last c (omega (arith, lt, last.potentials.same))));
-      denominator_some = omega (arith, ints, made.denominator_is, last.potentials.priced.some);
+      one_each = rw (made.potentials_are, last.size) last.potentials.sized;
+      small = rw (made.potentials_are, last.size, less) (λ c d lt. rw (get_or_default numbers c d (pos 0) lt) (potential_small b columns target stage last c (omega (arith, lt, last.potentials.sized))));
+      denominator_some = omega (arith, ints, made.denominator_is, last.potentials.priced.positive);
       denominator_small = rw last.size (omega (arith, ints, made.denominator_is, denominator_small b columns target stage last));
       priced = rw (made.potentials_are, made.denominator_is, last.size) (λ k d lt. omega (arith, ints, last.dear k d lt, *ℤ_comm (pos stage.potentials.denominator) (get_or columns k d).cost));
       tight = rw (made.weights_are, made.potentials_are, made.denominator_is, last.size) (λ i d lt column got.

@@ -1,14 +1,13 @@
 -- Where a unit column keeps a weight at the end of the first phase, the potentials prove that no weights give the target.
 use Rattle.std.proofs.Common.{◌≡◌, ℕ, zero, suc, ◌-◌, ◌*◌, ◌^◌, ◌<◌, ◌≤◌, List, [], ◌∷◌, length, get_or, refl, arith, ap, sym, ◌∙◌, subst}
-use Rattle.std.specs.Prelude.{ℤ, pos, ◌≤ℤ◌, ◌+ℤ◌, ◌*ℤ◌, Option, Some, None, All, unsigned_abs}
+use Rattle.std.specs.Prelude.{ℤ, pos, ◌≤ℤ◌, ◌*ℤ◌, Option, Some, None, All, unsigned_abs}
 use Rattle.std.proofs.lemmas.Int.{ints}
-use Rattle.cal_math.specs.Whole.{*ℤ-+ℤ, *ℤ-≤}
-use Rattle.lp_laws.proofs.Sums.{times_zero, sum-same, sum-add, sum-zero, dot_same, dot-scale}
-use Rattle.lp_laws.proofs.Exchange.{one-le-*ℤ}
+use Rattle.cal_math.specs.Whole.{*ℤ-≤}
+use Rattle.cal_math.specs.Vectors.{at, dot}
+use Rattle.cal_math.proofs.Products.{times_zero, one-le-*ℤ}
+use Rattle.cal_math.proofs.Vectors.{dot-plus, dot-zero, dot_same, dot-scale}
 use Rattle.lp_laws.proofs.Idle.{price_above}
 use Rattle.lp_laws.proofs.Reduced.{reduced_potential-le}
-use Rattle.lp_laws.specs.Vectors.{dot}
-use Rattle.lp_basis.specs.Rows.{at}
 use Rattle.lp_basis.specs.Held.{numbers_at, own_at}
 use Rattle.lp_basis.specs.declared.column.Column.{Column}
 use Rattle.lp_stage.specs.Leaving.{amounts_at}
@@ -17,17 +16,9 @@ use Rattle.lp_stage.specs.declared.phase.Phase.TheVariants.{First}
 use Rattle.lp_stage.specs.declared.stage.Stage.{Stage}
 use Rattle.lp_stage.proofs.Improvement.{amounts_get}
 use Rattle.lp_core.specs.Fitting.{widest}
-use Rattle.lp_core.specs.Plans.{Weight, given, IsFeasible, IsProofOfNone}
+use Rattle.lp_core.specs.Plans.{Weight, given_amount, IsFeasible, IsProofOfNone}
 use Rattle.lp_core.specs.FirstPhase.{IsFirstEnd, HasUnit}
 use Rattle.lp_core.proofs.Beginning.{cost_small_first}
-
-pub dot-plus : (n : ℕ) (v x y : ℕ → ℤ) → dot n v (λ c. x c +ℤ y c) ≡ dot n v x +ℤ dot n v y
-unfolding dot
-dot-plus n v x y = sum-same n (λ c. v c *ℤ (x c +ℤ y c)) (λ c. v c *ℤ x c +ℤ v c *ℤ y c) (λ c lt. *ℤ-+ℤ (v c) (x c) (y c)) ∙ sum-add n (λ c. v c *ℤ x c) (λ c. v c *ℤ y c)
-
-pub dot-zero : (n : ℕ) (v : ℕ → ℤ) → dot n v (λ c. pos 0) ≡ pos 0
-unfolding dot
-dot-zero n v = sum-zero n (λ c. v c *ℤ pos 0) (λ c lt. times_zero (v c))
 
 -- ---- a proof of none excludes weights
 
@@ -36,7 +27,7 @@ below_at n [] v below k lt = absurd (omega arith)
 below_at n (x ∷ columns) v below k lt = rw (amounts_get (x ∷ columns) k x lt) (below k x lt)
 
 price_below : (n : ℕ) (columns : List Column) (v : ℕ → ℤ) (weights : List Weight) → All (λ column. dot n v (at column.amounts.items) ≤ℤ pos 0) columns → All (λ w. (w.0 < length columns) × (pos 0 ≤ℤ w.1)) weights →
-    dot n v (given columns weights) ≤ℤ pos 0
+    dot n v (given_amount columns weights) ≤ℤ pos 0
 price_below n columns v [] below named = omega (arith, ints, dot-zero n v)
 price_below n columns v (w ∷ weights) below named =
     let here = named 0 w (omega arith) in
@@ -45,7 +36,7 @@ price_below n columns v (w ∷ weights) below named =
       arith,
       ints,
       rest,
-      dot-plus n v (λ c. w.1 *ℤ at (amounts_at columns w.0) c) (given columns weights),
+      dot-plus n v (λ c. w.1 *ℤ at (amounts_at columns w.0) c) (given_amount columns weights),
       dot-scale n w.1 v (at (amounts_at columns w.0)),
       *ℤ-≤ w.1 (dot n v (at (amounts_at columns w.0))) (pos 0) here.1 (below_at n columns v below w.0 here.0),
       times_zero w.1,
@@ -53,14 +44,14 @@ price_below n columns v (w ∷ weights) below named =
 
 pub no_weights_give : (columns : List Column) (target v : List ℤ) → IsProofOfNone columns target v → (parts : ℕ) (weights : List Weight) → ¬ IsFeasible columns target parts weights
 no_weights_give columns target v proof parts weights feasible =
-    let total : dot (length target) (at v) (given columns weights) ≡ pos parts *ℤ dot (length target) (at v) (at target) =
-    dot_same (length target) (at v) (given columns weights) (at v) (λ c. pos parts *ℤ at target c) (λ c lt. refl) feasible.gives ∙ dot-scale (length target) (pos parts) (at v) (at target) in
+    let total : dot (length target) (at v) (given_amount columns weights) ≡ pos parts *ℤ dot (length target) (at v) (at target) =
+    dot_same (length target) (at v) (given_amount columns weights) (at v) (λ c. pos parts *ℤ at target c) (λ c lt. refl) feasible.gives ∙ dot-scale (length target) (pos parts) (at v) (at target) in
     omega (
       arith,
       ints,
       total,
       price_below (length target) columns (at v) weights proof.below feasible.named,
-      one-le-*ℤ (pos parts) (dot (length target) (at v) (at target)) (omega (arith, ints, feasible.some)) proof.above,
+      one-le-*ℤ (pos parts) (dot (length target) (at v) (at target)) (omega (arith, ints, feasible.positive)) proof.above,
     )
 
 -- ---- the potentials of the first phase
@@ -93,7 +84,7 @@ proof_of_none b columns target end size done unit =
     let least : (j : ℕ) → j < suc b → pos 0 ≤ℤ dot (suc b) (rows j) (at target) = λ j lt. subst (λ (n : ℕ). pos 0 ≤ℤ dot n (rows j) (at target)) size (run.least j lt) in
     let cost_some : pos 1 ≤ℤ costs unit.place = subst (λ (o : Option ℕ). pos 1 ≤ℤ cost_at First columns o) (sym unit.is_unit) (omega (arith, ints)) in
     record {
-      one_each = run.potentials.same ∙ sym size;
+      one_each = run.potentials.sized ∙ sym size;
       below = λ k d lt. subst (λ (n : ℕ). dot n numbers (at (get_or columns k d).amounts.items) ≤ℤ pos 0) (sym size) (omega (arith, ints, done.dear k d lt));
       above = subst (λ (n : ℕ). pos 1 ≤ℤ dot n numbers (at target)) (sym size)
           (price_above (suc b) (suc b) cols rows (own_at end.rows.items) costs numbers (at target) end.potentials.denominator held.basis run.potentials.priced (λ j lt. cost_least columns (get_or end.places.items j None))
@@ -104,7 +95,7 @@ proof_of_none b columns target end size done unit =
             arith,
             less,
             reduced_potential-le b (widest (suc b) columns) 1 cols rows (own_at end.rows.items) costs numbers end.potentials.denominator run.during.few held.basis held.plain run.potentials.priced run.potentials.reduced
-                (λ j q. cost_small_first columns (get_or end.places.items j None)) k (omega (arith, run.potentials.same, lt)),
+                (λ j q. cost_small_first columns (get_or end.places.items j None)) k (omega (arith, run.potentials.sized, lt)),
           )));
     }
   where

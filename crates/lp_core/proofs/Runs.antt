@@ -5,16 +5,15 @@ use Rattle.std.proofs.lemmas.Int.{ints}
 use Rattle.std.proofs.lemmas.Bool.{cases_eq, cases_lt}
 use Rattle.std.proofs.Math.Nat.{pow-suc, mul-le-mul_right}
 use Rattle.std.proofs.lemmas.Nat.{mul-le}
-use Rattle.lp_laws.proofs.Sums.{sum-same, sum-le, dot_same}
+use Rattle.cal_math.specs.Vectors.{at, sum_to, dot}
+use Rattle.cal_math.proofs.Vectors.{sum-same, sum-le, dot_same}
 use Rattle.lp_laws.proofs.Bounds.{sum_times}
-use Rattle.lp_laws.specs.Vectors.{sum_to, dot}
 use Rattle.lp_laws.specs.Bases.{IsBasis}
 use Rattle.lp_laws.specs.Orders.{IsLexAbove}
-use Rattle.lp_basis.specs.Rows.{at}
 use Rattle.lp_basis.specs.Held.{IsHeld, numbers_at, own_at}
 use Rattle.lp_basis.proofs.Held.{at_past}
 use Rattle.lp_basis.specs.declared.column.Column.{Column}
-use Rattle.lp_stage.specs.Leaving.{amounts_at, listed, IsStart}
+use Rattle.lp_stage.specs.Leaving.{amounts_at, start_product, IsStart}
 use Rattle.lp_stage.specs.Stages.{basis_columns}
 use Rattle.lp_stage.specs.Running.{IsRunning, IsSettled}
 use Rattle.lp_stage.specs.declared.phase.Phase.{Phase}
@@ -50,12 +49,12 @@ start_fits : (b w s : ℕ) (phase : Phase) (columns : List Column) (target : Lis
     AreStarts (suc b) columns target stage.places.items (suc b) starts → (k : ℕ) → k < suc (suc b) → IsStart (suc b) (start_width w) (amounts_at starts k)
 unfolding start_width
 start_fits b w s phase columns target stage starts can are zero lt =
-    rw are.first (record { same = can.size; least = can.aim.least; sum = omega (arith, ints, target_sum b target can.size can.aim) })
+    rw are.first (record { sized = can.size; least = can.aim.least; sum = omega (arith, ints, target_sum b target can.size can.aim) })
 start_fits b w s phase columns target stage starts can are (suc j) lt =
     let plain = can.basis.held.plain in
     let cols : ℕ → ℕ → ℤ = basis_columns columns stage.places.items in
     record {
-      same = are.lengths j (omega arith);
+      sized = are.lengths j (omega arith);
       least = λ c. elim (cases_lt c (suc b)) [
         | inl less ↦ rw (are.others j c (omega arith) less) (plain.least j c (omega arith) less)
         | inr le ↦ rw (at_past (amounts_at starts (suc j)) c (omega (arith, are.lengths j (omega arith)))) (omega (arith, ints))
@@ -69,7 +68,7 @@ zero_or_some (pos (suc n)) h = inr (omega (arith, ints))
 zero_or_some (negsuc n) h = absurd (omega (arith, ints))
 
 list_above : (b w s : ℕ) (phase : Phase) (columns : List Column) (target : List ℤ) (stage : Stage) (starts : List Column) → CanRun b w s phase columns target stage →
-    AreStarts (suc b) columns target stage.places.items (suc b) starts → (j : ℕ) → j < suc b → IsLexAbove (suc (suc b)) (λ k. listed (suc b) starts (numbers_at stage.rows.items j) k)
+    AreStarts (suc b) columns target stage.places.items (suc b) starts → (j : ℕ) → j < suc b → IsLexAbove (suc (suc b)) (λ k. start_product (suc b) starts (numbers_at stage.rows.items j) k)
 list_above b w s phase columns target stage starts can are j lt =
     elim (zero_or_some (dot (suc b) row (at target)) least) [
       | inr some ↦ record { place = 0; within = omega arith; zeros = λ c less. absurd (omega arith); above = subst (λ (z : ℤ). pos 1 ≤ℤ z) (sym first) some }
@@ -90,13 +89,13 @@ list_above b w s phase columns target stage starts can are j lt =
     least : pos 0 ≤ℤ dot (suc b) row (at target)
     least = subst (λ (n : ℕ). pos 0 ≤ℤ dot n row (at target)) can.size (can.least j lt)
 
-    first : listed (suc b) starts (numbers_at stage.rows.items j) 0 ≡ dot (suc b) row (at target)
+    first : start_product (suc b) starts (numbers_at stage.rows.items j) 0 ≡ dot (suc b) row (at target)
     first = ap (λ (xs : List ℤ). dot (suc b) row (at xs)) are.first
 
-    other : (i : ℕ) → i < suc b → listed (suc b) starts (numbers_at stage.rows.items j) (suc i) ≡ dot (suc b) row (basis_columns columns stage.places.items i)
+    other : (i : ℕ) → i < suc b → start_product (suc b) starts (numbers_at stage.rows.items j) (suc i) ≡ dot (suc b) row (basis_columns columns stage.places.items i)
     other i less = dot_same (suc b) row (at (amounts_at starts (suc i))) row (basis_columns columns stage.places.items i) (λ c q. refl) (λ c q. are.others i c less q)
 
-    zeros : dot (suc b) row (at target) ≡ pos 0 → (k : ℕ) → k < suc j → listed (suc b) starts (numbers_at stage.rows.items j) k ≡ pos 0
+    zeros : dot (suc b) row (at target) ≡ pos 0 → (k : ℕ) → k < suc j → start_product (suc b) starts (numbers_at stage.rows.items j) k ≡ pos 0
     zeros none zero less = first ∙ none
     zeros none (suc i) less = other i (omega arith) ∙ held.basis.kills j i lt (omega arith) (λ e. omega (arith, e))
 
@@ -141,7 +140,7 @@ has_run b w s phase columns target stage end starts can are settled =
         basis = run.basis;
         potentials = run.potentials;
         least = λ j lt. subst (λ (n : ℕ). pos 0 ≤ℤ dot n (at (numbers_at end.rows.items j)) (at target)) (sym can.size)
-            (subst (λ (xs : List ℤ). pos 0 ≤ℤ dot (suc b) (at (numbers_at end.rows.items j)) (at xs)) are.first (least_of (suc b) (λ k. listed (suc b) starts (numbers_at end.rows.items j) k) (run.above j lt)));
+            (subst (λ (xs : List ℤ). pos 0 ≤ℤ dot (suc b) (at (numbers_at end.rows.items j)) (at xs)) are.first (least_of (suc b) (λ k. start_product (suc b) starts (numbers_at end.rows.items j) k) (run.above j lt)));
       };
       dear = done.1;
       keeps = done.2;

@@ -4,23 +4,22 @@ use Rattle.std.specs.Prelude.{ℤ, pos, ◌≤ℤ◌, ◌⊎◌, Option, Some, N
 use Rattle.std.proofs.lemmas.Int.{ints}
 use Rattle.std.proofs.lemmas.Bool.{cases_eq}
 use Rattle.std.proofs.lemmas.List.{get_or-set_same, get_or-set_other}
-use Rattle.lp_laws.proofs.Sums.{dot_same}
+use Rattle.cal_math.specs.Vectors.{at, dot}
+use Rattle.cal_math.proofs.Vectors.{dot_same}
 use Rattle.lp_laws.proofs.Idle.{stays_killed, stays_least, stays_idle}
-use Rattle.lp_laws.specs.Vectors.{dot}
-use Rattle.lp_basis.specs.Rows.{at}
 use Rattle.lp_basis.specs.Held.{numbers_at, own_at}
 use Rattle.lp_basis.specs.Potentials.{IsPotentials}
 use Rattle.lp_basis.proofs.Held.{fits_column}
 use Rattle.lp_basis.specs.declared.column.Column.{Column}
 use Rattle.lp_basis.specs.declared.row.Row.{Row}
-use Rattle.lp_stage.specs.Leaving.{amounts_at, met_at}
+use Rattle.lp_stage.specs.Leaving.{amounts_at, row_product}
 use Rattle.lp_stage.specs.Stages.{column_at, basis_columns, basis_costs, IsKnown, IsPlacedBasis, IsStage, CanStand, CanMove}
 use Rattle.lp_stage.specs.declared.phase.Phase.TheVariants.{Second}
 use Rattle.lp_stage.specs.declared.stage.Stage.{Stage}
 use Rattle.lp_core.specs.Fitting.{widest, dearest}
-use Rattle.lp_core.specs.Ends.{met_by, IsLast}
+use Rattle.lp_core.specs.Ends.{target_product, IsLast}
 use Rattle.lp_core.specs.Starts.{CanRun, HasRun}
-use Rattle.lp_core.specs.SecondPhase.{met_with, KillsAll, MeetsAll, CanFollow, IsReady}
+use Rattle.lp_core.specs.SecondPhase.{column_product, KillsAll, MeetsAll, CanFollow, IsReady}
 use Rattle.lp_core.proofs.Beginning.{second_phase, fine_at}
 
 is_none : (o : Option ℕ) → (o ≡ None) ⊎ ((k : ℕ) × (o ≡ Some k))
@@ -47,9 +46,9 @@ IsReady-first b columns target end stage can rows_are is = record {
   basis = subst (λ (places : List (Option ℕ)). IsPlacedBasis b (widest (suc b) columns) columns places stage.rows.items) (sym is.places_are) is.basis;
   potentials = subst (λ (places : List (Option ℕ)). IsPotentials (suc b) (basis_columns columns places) (basis_costs Second columns places) stage.potentials) (sym is.places_are) is.potentials;
   reached = record {
-    least = λ j lt. subst (λ (rows : List Row). pos 0 ≤ℤ met_by rows target j) (sym rows_are) (can.first.run.least j lt);
-    idle = λ j lt none. subst (λ (rows : List Row). met_by rows target j ≡ pos 0) (sym rows_are)
-        (zero_between (met_by end.rows.items target j) (can.first.run.least j lt) (can.none j (omega (arith, can.first.run.basis.count, lt)) (subst (λ (places : List (Option ℕ)). get_or places j None ≡ None) is.places_are none)));
+    least = λ j lt. subst (λ (rows : List Row). pos 0 ≤ℤ target_product rows target j) (sym rows_are) (can.first.run.least j lt);
+    idle = λ j lt none. subst (λ (rows : List Row). target_product rows target j ≡ pos 0) (sym rows_are)
+        (zero_between (target_product end.rows.items target j) (can.first.run.least j lt) (can.none j (omega (arith, can.first.run.basis.count, lt)) (subst (λ (places : List (Option ℕ)). get_or places j None ≡ None) is.places_are none)));
   };
   spare = λ j lt within none. absurd (omega arith);
 }
@@ -60,11 +59,11 @@ pub meets_all : (b : ℕ) (columns : List Column) (target : List ℤ) (done : �
 meets_all b columns target done stage ready j lt k within =
     let start = (second_phase b columns target ready.fits ready.size).fine k within in
     let w : ℕ = widest (suc b) columns in
-    (w ^ b, w, fits_column b w (basis_columns columns stage.places.items) stage.rows.items (amounts_at columns k) ready.basis.held start.same start.least start.sum j lt)
+    (w ^ b, w, fits_column b w (basis_columns columns stage.places.items) stage.rows.items (amounts_at columns k) ready.basis.held start.sized start.least start.sum j lt)
 
 -- the product with a known column, by the row's own length
 pub met_same : (b : ℕ) (columns : List Column) (target : List ℤ) (done : ℕ) (stage : Stage) → IsReady b columns target done stage → (j k : ℕ) → j < suc b →
-    met_with columns (numbers_at stage.rows.items j) k ≡ met_at (suc b) stage.rows.items (amounts_at columns k) j
+    column_product columns (numbers_at stage.rows.items j) k ≡ row_product (suc b) stage.rows.items (amounts_at columns k) j
 met_same b columns target done stage ready j k lt = ap (λ (n : ℕ). dot n (at (numbers_at stage.rows.items j)) (at (amounts_at columns k))) (ready.basis.held.lengths j lt)
 
 -- ---- one more place is done
@@ -84,11 +83,11 @@ known_more b columns target j stage ready last = record {
 }
 
 pub IsReady-spare : (b : ℕ) (columns : List Column) (target : List ℤ) (j : ℕ) (stage : Stage) → IsReady b columns target j stage → j < suc b →
-    (get_or stage.places.items j None ≡ None → (k : ℕ) → k < length columns → met_with columns (numbers_at stage.rows.items j) k ≡ pos 0) → IsReady b columns target (j + 1) stage
+    (get_or stage.places.items j None ≡ None → (k : ℕ) → k < length columns → column_product columns (numbers_at stage.rows.items j) k ≡ pos 0) → IsReady b columns target (j + 1) stage
 IsReady-spare b columns target j stage ready lt kills =
     known_more b columns target j stage ready (λ none k within. sym (met_same b columns target j stage ready j k lt) ∙ kills none k within)
 
-pub CanMove-ready : (b : ℕ) (columns : List Column) (target : List ℤ) (j k : ℕ) (stage : Stage) → IsReady b columns target j stage → j < suc b → k < length columns → met_with columns (numbers_at stage.rows.items j) k ≢ pos 0 →
+pub CanMove-ready : (b : ℕ) (columns : List Column) (target : List ℤ) (j k : ℕ) (stage : Stage) → IsReady b columns target j stage → j < suc b → k < length columns → column_product columns (numbers_at stage.rows.items j) k ≢ pos 0 →
     CanMove b (widest (suc b) columns) (dearest columns) Second columns stage.places.items stage.rows.items j k
 CanMove-ready b columns target j k stage ready lt within met = record {
   during = second_phase b columns target ready.fits ready.size;

@@ -3,7 +3,7 @@ use Rattle.std.proofs.Common.{◌≡◌, ℕ, zero, suc, ◌+◌, ◌<◌, List,
 use Rattle.std.specs.Prelude.{ℤ, pos, Option, Result, Ok, Err, IfOk}
 use Rattle.std.proofs.lemmas.Bool.{cases_eq}
 use Rattle.lp_laws.specs.Bases.{IsUnit}
-use Rattle.lp_basis.specs.Rows.{at}
+use Rattle.cal_math.specs.Vectors.{at}
 use Rattle.lp_basis.specs.declared.column.Column.{Column}
 use Rattle.lp_stage.specs.Leaving.{amounts_at}
 use Rattle.lp_stage.specs.Stages.{unit_at, basis_columns}

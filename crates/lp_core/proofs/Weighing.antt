@@ -9,17 +9,17 @@ use Rattle.std.proofs.lemmas.List.{get_or_default}
 use Rattle.std.proofs.lemmas.List.Elements.{All-append, All-cons, All-nil}
 use Rattle.std.proofs.lemmas.List.Quantifiers.{all_pairs_push}
 use Rattle.cal_math.specs.Sums.{sum_of}
-use Rattle.lp_laws.proofs.Sums.{sum-le}
+use Rattle.cal_math.specs.Vectors.{at, sum_to}
+use Rattle.cal_math.proofs.Vectors.{sum-le}
 use Rattle.lp_laws.proofs.Bounds.{sum_times}
-use Rattle.lp_laws.specs.Vectors.{sum_to}
-use Rattle.lp_basis.specs.Rows.{at}
 use Rattle.lp_basis.specs.Held.{numbers_at, own_at}
 use Rattle.lp_basis.specs.declared.row.Row.{Row}
 use Rattle.lp_basis.proofs.Held.{number_small, powers_room}
-use Rattle.lp_core.proofs.Divisors.{dvd_from}
+use Rattle.cal_math.proofs.Divisors.{dvd_from}
 use Rattle.lp_core.specs.Plans.{Weight}
 use Rattle.lp_core.specs.Fitting.{IsTarget}
-use Rattle.lp_core.specs.Weights.{IsMultiple, FitsRow, CanWeigh, IsCommon, FitsCommon, over, weight_at, value_of, FitsWeights, IsWeight, AreWeights}
+use Rattle.cal_whole.specs.Divisors.{IsLeastMultiple}
+use Rattle.lp_core.specs.Weights.{FitsRow, CanWeigh, IsCommon, FitsCommon, numerator_over, weight_at, value_of, FitsWeights, IsWeight, AreWeights}
 use Rattle.lp_core.specs.declared.weight.Fraction.{Fraction}
 
 -- ---- the product of a row with the target
@@ -34,7 +34,7 @@ fits_row b w columns rows target j row can lt numbers_are own_is =
     let lengths : length row.numbers.items ≡ suc b = sym (ap length numbers_are) ∙ can.held.lengths j lt in
     record {
       product = record {
-        same = lengths ∙ sym can.size;
+        sized = lengths ∙ sym can.size;
         row_small = λ c. subst (λ (xs : List ℤ). unsigned_abs (at xs c) ≤ w ^ b) numbers_are (number_small b w columns rows can.held j lt c);
         least = can.aim.least;
         sum = rw lengths (target_sum (suc b) target (omega (arith, can.size, can.aim.few)) can.aim);
@@ -48,7 +48,7 @@ fits_row b w columns rows target j row can lt numbers_are own_is =
 
 pub common_none : (fractions : List Fraction) → IsCommon fractions 0 1
 common_none fractions = record {
-  some = omega arith;
+  positive = omega arith;
   divides = λ j d lt. absurd (omega arith);
   least = λ h all. one_divides h;
 }
@@ -56,9 +56,9 @@ common_none fractions = record {
     one_divides : (h : ℕ) → 1 ∣ h
     one_divides h = dvd_from 1 h h (omega arith)
 
-pub common_more : (fractions : List Fraction) (j parts next : ℕ) (d : Fraction) → j < length fractions → IsCommon fractions j parts → IsMultiple parts (get_or fractions j d).denominator next → IsCommon fractions (j + 1) next
+pub common_more : (fractions : List Fraction) (j parts next : ℕ) (d : Fraction) → j < length fractions → IsCommon fractions j parts → IsLeastMultiple parts (get_or fractions j d).denominator next → IsCommon fractions (j + 1) next
 common_more fractions j parts next d lt is more = record {
-  some = more.some;
+  positive = more.above;
   divides = λ i e less. elim (cases_eq i j) [
     | inl same ↦ subst (λ (k : ℕ). (get_or fractions k e).denominator ∣ next) (sym same) (subst (λ (f : Fraction). f.denominator ∣ next) (get_or_default fractions j d e lt) more.second)
     | inr other ↦ dvd_trans _ (is.divides i e (omega arith)) more.first
@@ -72,7 +72,7 @@ common_small fractions j parts fits le is =
 
 -- ---- the list of weights
 
-pub weight_read : (fractions : List Fraction) (parts j : ℕ) (d : Fraction) → j < length fractions → weight_at fractions parts j ≡ over (get_or fractions j d) parts
+pub weight_read : (fractions : List Fraction) (parts j : ℕ) (d : Fraction) → j < length fractions → weight_at fractions parts j ≡ numerator_over (get_or fractions j d) parts
 weight_read [] parts j d lt = absurd (omega arith)
 weight_read (f ∷ fractions) parts zero d lt = refl
 weight_read (f ∷ fractions) parts (suc j) d lt = weight_read fractions parts j d (omega arith)
@@ -82,7 +82,7 @@ sum_pushed f [] weight = omega (arith, ints)
 sum_pushed f (w ∷ weights) weight = omega (arith, ints, sum_pushed f weights weight)
 
 IsWeight-more : (places : List (Option ℕ)) (fractions : List Fraction) (parts n : ℕ) (weight : Weight) → IsWeight places fractions parts n weight → IsWeight places fractions parts (suc n) weight
-IsWeight-more places fractions parts n weight is = record { place = is.place; within = omega (arith, is.within); column = is.column; is = is.is; above = is.above }
+IsWeight-more places fractions parts n weight is = record { place = is.place; within = omega (arith, is.within); column = is.column; exact = is.exact; above = is.above }
 
 pub weights_none : (places : List (Option ℕ)) (fractions : List Fraction) (parts : ℕ) → AreWeights places fractions parts 0 []
 weights_none places fractions parts = record {
@@ -106,7 +106,7 @@ pub weights_more : (places : List (Option ℕ)) (fractions : List Fraction) (par
     weight.1 ≡ pos (weight_at fractions parts j) → pos 1 ≤ℤ weight.1 → AreWeights places fractions parts j weights → AreWeights places fractions parts (suc j) (weights ++ weight ∷ [])
 weights_more places fractions parts j weights weight fits lt column is above are = record {
   each = All-append (IsWeight places fractions parts (suc j)) weights (weight ∷ []) (λ k d less. IsWeight-more places fractions parts j (get_or weights k d) (are.each k d less))
-      (All-cons (IsWeight places fractions parts (suc j)) weight [] (record { place = j; within = omega arith; column = column; is = is; above = above }) (All-nil (IsWeight places fractions parts (suc j))));
+      (All-cons (IsWeight places fractions parts (suc j)) weight [] (record { place = j; within = omega arith; column = column; exact = is; above = above }) (All-nil (IsWeight places fractions parts (suc j))));
   few = omega (arith, are.few, length-append weights (weight ∷ []));
   different = all_pairs_push (λ v w. v.0 ≢ w.0) weights weight are.different (λ k d less same.
       let before : IsWeight places fractions parts j (get_or weights k d) = are.each k d less in

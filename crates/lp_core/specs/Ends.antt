@@ -1,8 +1,7 @@
 -- How a phase ends: what the first leaves to the second, and the second to the plan.
 use Rattle.std.specs.Prelude.{◌≡◌, ℕ, suc, ◌<◌, List, length, get_or, None, All}
 use Rattle.std.specs.Prelude.{ℤ, pos, ◌≤ℤ◌}
-use Rattle.lp_laws.specs.Vectors.{dot}
-use Rattle.lp_basis.specs.Rows.{at}
+use Rattle.cal_math.specs.Vectors.{at, dot}
 use Rattle.lp_basis.specs.Held.{numbers_at}
 use Rattle.lp_basis.specs.Potentials.{IsPotentials}
 use Rattle.lp_basis.specs.declared.column.Column.{Column}
@@ -14,13 +13,14 @@ use Rattle.lp_stage.specs.declared.stage.Stage.{Stage}
 use Rattle.lp_core.specs.Fitting.{widest, Fits}
 
 -- the product of the row at place j with the target: its weight times its own product
-abbrev pub met_by : List Row → List ℤ → ℕ → ℤ
-met_by rows target j = dot (length target) (at (numbers_at rows j)) (at target)
+abbrev pub target_product : List Row → List ℤ → ℕ → ℤ
+target_product rows target j = dot (length target) (at (numbers_at rows j)) (at target)
 
 -- every weight is at least 0, and that of each unit column 0
 pub record IsReached (n : ℕ) (target : List ℤ) (stage : Stage) : Type 0 where
-  pub least : (j : ℕ) → j < n → pos 0 ≤ℤ met_by stage.rows.items target j
-  pub idle : (j : ℕ) → j < n → get_or stage.places.items j None ≡ None → met_by stage.rows.items target j ≡ pos 0
+  pub least : (j : ℕ) → j < n → pos 0 ≤ℤ target_product stage.rows.items target j
+  pub idle : (j : ℕ) → j < n → get_or stage.places.items j None ≡ None →
+      target_product stage.rows.items target j ≡ pos 0
 
 -- the last stage: it reaches the target, and no known column costs less than the potentials ask for it
 pub record IsLast (b : ℕ) (columns : List Column) (target : List ℤ) (stage : Stage) : Type 0 where

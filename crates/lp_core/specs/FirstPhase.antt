@@ -1,7 +1,8 @@
 -- How the first phase begins and ends: it makes the weight of the unit columns least.
 use Rattle.std.specs.Prelude.{◌≡◌, ℕ, suc, ◌<◌, ◌≤◌, ◌^◌, List, length, get_or, Option, None, All, replicate}
 use Rattle.std.specs.Prelude.{ℤ, pos, ◌≤ℤ◌}
-use Rattle.lp_basis.specs.Rows.{at, FitsProduct}
+use Rattle.cal_math.specs.Vectors.{at}
+use Rattle.lp_basis.specs.Rows.{FitsProduct}
 use Rattle.lp_basis.specs.Held.{numbers_at}
 use Rattle.lp_basis.specs.declared.column.Column.{Column}
 use Rattle.lp_basis.specs.declared.row.Row.{Row}
@@ -10,7 +11,7 @@ use Rattle.lp_stage.specs.Stages.{IsPhase, IsStage}
 use Rattle.lp_stage.specs.declared.phase.Phase.TheVariants.{First}
 use Rattle.lp_stage.specs.declared.stage.Stage.{Stage}
 use Rattle.lp_core.specs.Fitting.{widest}
-use Rattle.lp_core.specs.Ends.{met_by}
+use Rattle.lp_core.specs.Ends.{target_product}
 use Rattle.lp_core.specs.Starts.{CanRun}
 
 -- the known columns, and room for bases of n of them and of units
@@ -31,15 +32,17 @@ pub record IsFirstEnd (b : ℕ) (columns : List Column) (target : List ℤ) (end
 
 -- the product of each row with the target fits
 abbrev pub MeetsTarget : List Row → List ℤ → Type 0
-MeetsTarget rows target = (j : ℕ) → j < length rows → (m : ℕ) × (v : ℕ) × FitsProduct m v (numbers_at rows j) target
+MeetsTarget rows target = (j : ℕ) → j < length rows → (m : ℕ) × (v : ℕ)
+    × FitsProduct m v (numbers_at rows j) target
 
 -- a unit column has a weight above 0
 pub record HasUnit (places : List (Option ℕ)) (rows : List Row) (target : List ℤ) : Type 0 where
   pub place : ℕ
   pub within : place < length places
   pub is_unit : get_or places place None ≡ None
-  pub weighted : pos 1 ≤ℤ met_by rows target place
+  pub weighted : pos 1 ≤ℤ target_product rows target place
 
 -- no unit column has
 abbrev pub HasNoUnit : List (Option ℕ) → List Row → List ℤ → Type 0
-HasNoUnit places rows target = (j : ℕ) → j < length places → get_or places j None ≡ None → met_by rows target j ≤ℤ pos 0
+HasNoUnit places rows target = (j : ℕ) → j < length places → get_or places j None ≡ None →
+    target_product rows target j ≤ℤ pos 0

@@ -1,8 +1,7 @@
 -- Targets, and when exact plans of columns fit 128 bits.
 use Rattle.std.specs.Prelude.{◌≡◌, ℕ, ◌*◌, ◌<◌, ◌≤◌, ◌^◌, List, [], ◌∷◌, length, All, max}
 use Rattle.std.specs.Prelude.{ℤ, pos, ◌≤ℤ◌, unsigned_abs}
-use Rattle.lp_laws.specs.Vectors.{sum_to}
-use Rattle.lp_basis.specs.Rows.{at}
+use Rattle.cal_math.specs.Vectors.{at, sum_to}
 use Rattle.lp_basis.specs.Columns.{IsColumn, sum_at}
 use Rattle.lp_basis.specs.declared.column.Column.{Column}
 
@@ -21,7 +20,7 @@ pub record IsTarget (target : List ℤ) : Type 0 where
   pub few : length target ≤ 8
   pub least : (c : ℕ) → pos 0 ≤ℤ at target c
   pub most : (c : ℕ) → at target c ≤ℤ pos (2 ^ 50)
-  pub some : (c : ℕ) × (c < length target) × (pos 1 ≤ℤ at target c)
+  pub positive : (c : ℕ) × (c < length target) × (pos 1 ≤ℤ at target c)
 
 -- w^n is at most 2^62, and w^n * s at most 2^94
 pub record HasRoom (n w s : ℕ) : Type 0 where
@@ -37,7 +36,7 @@ pub record Fits (columns : List Column) (target : List ℤ) : Type 0 where
 -- a column with its sum, at most 2^62
 pub record IsMeasured (n : ℕ) (column : Column) (sum : ℕ) : Type 0 where
   pub fine : IsColumn n column
-  pub is : sum_to n (at column.amounts.items) ≡ pos sum
+  pub exact : sum_to n (at column.amounts.items) ≡ pos sum
   pub most : sum ≤ 2 ^ 62
 
 -- columns with their greatest sum, at most 2^62, and the greatest magnitude of their costs

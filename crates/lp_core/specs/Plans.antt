@@ -2,8 +2,7 @@
 use Rattle.std.specs.Prelude.{◌≡◌, ℕ, zero, suc, ◌*◌, ◌<◌, ◌≤◌, ◌^◌, ◌-◌, ◌≢◌, List, [], ◌∷◌, length, Some, slice_get, AllPairs, All}
 use Rattle.std.specs.Prelude.{ℤ, pos, ◌*ℤ◌, ◌≤ℤ◌, unsigned_abs}
 use Rattle.cal_math.specs.Sums.{sum_of}
-use Rattle.lp_laws.specs.Vectors.{dot}
-use Rattle.lp_basis.specs.Rows.{at}
+use Rattle.cal_math.specs.Vectors.{at, dot}
 use Rattle.lp_basis.specs.declared.column.Column.{Column}
 use Rattle.lp_stage.specs.Leaving.{amounts_at}
 use Rattle.lp_core.specs.Fitting.{widest, dearest}
@@ -16,8 +15,8 @@ abbrev pub Weight : Type 0
 Weight = ℕ × ℤ
 
 -- what the weights give of component c: the sum of weight times amount
-abbrev pub given : List Column → List Weight → ℕ → ℤ
-given columns weights c = sum_of (λ w. w.1 *ℤ at (amounts_at columns w.0) c) weights
+abbrev pub given_amount : List Column → List Weight → ℕ → ℤ
+given_amount columns weights c = sum_of (λ w. w.1 *ℤ at (amounts_at columns w.0) c) weights
 
 -- what a unit of the column at k costs
 abbrev pub column_cost : List Column → ℕ → ℤ
@@ -30,10 +29,12 @@ abbrev pub cost_of : List Column → List Weight → ℤ
 cost_of columns weights = sum_of (λ w. w.1 *ℤ column_cost columns w.0) weights
 
 -- weights of at least 0 that give `parts` times the target
-pub record IsFeasible (columns : List Column) (target : List ℤ) (parts : ℕ) (weights : List Weight) : Type 0 where
-  pub some : 1 ≤ parts
+pub record IsFeasible (columns : List Column) (target : List ℤ) (parts : ℕ)
+    (weights : List Weight) : Type 0 where
+  pub positive : 1 ≤ parts
   pub named : All (λ w. (w.0 < length columns) × (pos 0 ≤ℤ w.1)) weights
-  pub gives : (c : ℕ) → c < length target → given columns weights c ≡ pos parts *ℤ at target c
+  pub gives : (c : ℕ) → c < length target →
+      given_amount columns weights c ≡ pos parts *ℤ at target c
 
 -- With w the greatest sum of a column, s the greatest magnitude of a cost and C the number of components: weights of at most C
 -- different columns, all above 0, that give the target over `parts`; and potentials that ask of no column more than it costs, and of each
@@ -60,7 +61,8 @@ pub record IsPlan (columns : List Column) (target : List ℤ) (plan : Plan) : Ty
 
 -- no weights that give the target cost less, each over its own parts
 abbrev pub IsCheapest : List Column → List ℤ → Plan → Type 0
-IsCheapest columns target plan = (parts : ℕ) (weights : List Weight) → IsFeasible columns target parts weights →
+IsCheapest columns target plan = (parts : ℕ) (weights : List Weight) →
+    IsFeasible columns target parts weights →
     (pos parts *ℤ cost_of columns plan.weights.items) ≤ℤ (plan.parts *ℤ cost_of columns weights)
 
 -- numbers of at most 3*C*w^(C-1) in magnitude, at most 0 at every column and above 0 at the target

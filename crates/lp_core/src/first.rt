@@ -1,7 +1,7 @@
 ghost use Rattle.std.specs.Prelude.{◌≡◌, ◌<◌, ℕ, suc, length, None, IfOk, replicate};
 ghost use Rattle.std.specs.Bool.{OnTrue, OnFalse};
 ghost use Rattle.lp_core.specs.Fitting.{Fits};
-ghost use Rattle.lp_core.specs.Ends.{met_by};
+ghost use Rattle.lp_core.specs.Ends.{target_product};
 ghost use Rattle.lp_core.specs.FirstPhase.{CanBegin, IsBegun, IsFirstEnd, MeetsTarget, HasUnit, HasNoUnit};
 
 use crate::start::run;
@@ -38,7 +38,8 @@ pub(crate) fn first_end(
     target: &[i128],
 ) -> Result<Stage, AllocError>
     requires { Fits columns.now target.now }
-    ensures { IfOk result (λ end. (b : ℕ) → length target.now ≡ suc b → IsFirstEnd b columns.now target.now end) }
+    ensures { IfOk result (λ end. (b : ℕ) → length target.now ≡ suc b →
+        IsFirstEnd b columns.now target.now end) }
 {
     let stage = stage_of_units(alloc, columns, target.len())?;
     let end = run(alloc, columns, target, Phase::First, stage)?;
@@ -46,10 +47,10 @@ pub(crate) fn first_end(
 }
 
 /// The product of the row at place j with the target.
-fn met_at(rows: &[Row], j: usize, target: &[i128]) -> i128
+fn target_product(rows: &[Row], j: usize, target: &[i128]) -> i128
     requires within { j < length rows.now }
     requires meets { MeetsTarget rows.now target.now }
-    ensures { result ≡ met_by rows.now target.now j }
+    ensures { result ≡ target_product rows.now target.now j }
 {
     let row = &rows[j];
     product(&row.numbers, target)
@@ -57,13 +58,13 @@ fn met_at(rows: &[Row], j: usize, target: &[i128]) -> i128
 
 /// Whether a unit column has a weight above 0.
 pub(crate) fn has_unit(places: &[Option<usize>], rows: &[Row], target: &[i128]) -> bool
-    requires same { length rows.now ≡ length places.now }
+    requires sized { length rows.now ≡ length places.now }
     requires meets { MeetsTarget rows.now target.now }
     ensures yes { OnTrue result (HasUnit places.now rows.now target.now) }
     ensures no { OnFalse result (HasNoUnit places.now rows.now target.now) }
 {
     'places: for j in 0..places.len() {
-        if places[j].is_none() && met_at(rows, j, target) > 0 {
+        if places[j].is_none() && target_product(rows, j, target) > 0 {
             return true;
         }
     }

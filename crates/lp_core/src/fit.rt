@@ -19,7 +19,7 @@ fn is_target(target: &[i128]) -> bool
     if target.len() > 8 {
         return false;
     }
-    let mut some = false;
+    let mut positive = false;
     'amounts: for c in 0..target.len() {
         if target[c] < 0 {
             return false;
@@ -28,15 +28,16 @@ fn is_target(target: &[i128]) -> bool
             return false;
         }
         if target[c] > 0 {
-            some = true;
+            positive = true;
         }
     }
-    some
+    positive
 }
 
 /// What the amounts of a column add to: `None` where it is no column of `size` amounts or the sum is above 2^62.
 fn measured(column: &Column, size: usize) -> Option<u128>
-    ensures { MatchOption result ((sum : ℕ) → IsMeasured size column.now sum → ⊥) (IsMeasured size column.now) }
+    ensures { MatchOption result ((sum : ℕ) → IsMeasured size column.now sum →
+        ⊥) (IsMeasured size column.now) }
 {
     if column.amounts.len() != size {
         return None;
@@ -53,7 +54,8 @@ fn measured(column: &Column, size: usize) -> Option<u128>
 
 /// How wide and how dear the columns are: `None` where one is no column of `size` amounts or has a sum above 2^62.
 fn extent_of(columns: &[Column], size: usize) -> Option<Extent>
-    ensures { MatchOption result ((w s : ℕ) → IsExtent size columns.now w s → ⊥) (λ e. IsExtent size columns.now e.width e.cost) }
+    ensures { MatchOption result ((w s : ℕ) → IsExtent size columns.now w s →
+        ⊥) (λ e. IsExtent size columns.now e.width e.cost) }
 {
     let mut width = 1;
     let mut cost = 0;

@@ -8,8 +8,6 @@ mod plan;
 mod second;
 mod solving;
 mod start;
-#[cfg(test)]
-mod tests;
 mod weight;
 
 pub use fault::LpFault;

@@ -1,7 +1,7 @@
 ghost use Rattle.std.specs.Prelude.{◌≡◌, ◌+◌, ◌<◌, ℕ, ℤ, List, length, suc, IfOk};
 ghost use Rattle.lp_basis.specs.Held.{numbers_at};
 ghost use Rattle.lp_core.specs.Ends.{IsLast};
-ghost use Rattle.lp_core.specs.SecondPhase.{met_with as product_with, MeetsAll, IsMeeting, IsEntrant, CanFollow, IsReady};
+ghost use Rattle.lp_core.specs.SecondPhase.{column_product, MeetsAll, IsMeeting, IsEntrant, CanFollow, IsReady};
 
 use crate::start::run;
 use lp_basis::{Column, Row, product};
@@ -9,10 +9,10 @@ use lp_stage::{Phase, Stage, exchanged, priced};
 use std::alloc::{AllocError, Global};
 
 /// The product of the row with the known column `k`.
-fn met_with(columns: &[Column], row: &[i128], k: usize) -> i128
+fn column_product(columns: &[Column], row: &[i128], k: usize) -> i128
     requires known { k < length columns.now }
     requires meets { MeetsAll columns.now row.now }
-    ensures { result ≡ product_with columns.now row.now k }
+    ensures { result ≡ column_product columns.now row.now k }
 {
     let column = &columns[k];
     product(row, &column.amounts)
@@ -24,7 +24,7 @@ fn meeting(columns: &[Column], row: &[i128]) -> Option<usize>
     ensures { IsMeeting columns.now row.now result }
 {
     'columns: for k in 0..columns.len() {
-        if met_with(columns, row, k) != 0 {
+        if column_product(columns, row, k) != 0 {
             return Some(k);
         }
     }
@@ -55,7 +55,8 @@ fn without_unit(
     j: usize,
 ) -> Result<Stage, AllocError>
     requires { (b : ℕ) × (target : List ℤ) × (j < suc b) × IsReady b columns.now target j stage }
-    ensures { IfOk result (λ next. (b : ℕ) (target : List ℤ) → j < suc b → IsReady b columns.now target j stage →
+    ensures { IfOk result (λ next. (b : ℕ) (target : List ℤ) → j < suc b →
+        IsReady b columns.now target j stage →
         IsReady b columns.now target (j + 1) next) }
 {
     let found = entrant(columns, &stage.places, &stage.rows, j);
@@ -100,7 +101,8 @@ pub(crate) fn second_end(
     end: Stage,
 ) -> Result<Stage, AllocError>
     requires { (b : ℕ) × CanFollow b columns.now target.now end }
-    ensures { IfOk result (λ last. (b : ℕ) → CanFollow b columns.now target.now end → IsLast b columns.now target.now last) }
+    ensures { IfOk result (λ last. (b : ℕ) → CanFollow b columns.now target.now end →
+        IsLast b columns.now target.now last) }
 {
     let stage = second_start(alloc, columns, end)?;
     let last = run(alloc, columns, target, Phase::Second, stage)?;

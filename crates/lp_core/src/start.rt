@@ -1,5 +1,5 @@
 ghost use Rattle.std.specs.Prelude.{◌≡◌, ℕ, ◌<◌, length, All, IfOk};
-ghost use Rattle.lp_basis.specs.Rows.{at};
+ghost use Rattle.cal_math.specs.Vectors.{at};
 ghost use Rattle.lp_basis.specs.Columns.{IsColumn};
 ghost use Rattle.lp_stage.specs.Stages.{IsKnown, AreKnown, column_at};
 ghost use Rattle.lp_core.specs.Starts.{AreStarts, CanRun, HasRunFrom};
@@ -19,8 +19,9 @@ fn amounts_of(
     requires component { component < size }
     requires known { IsKnown (length columns.now) place }
     requires fine { All (IsColumn size) columns.now }
-    ensures same { IfOk result (λ amounts. length amounts.items ≡ size) }
-    ensures are { IfOk result (λ amounts. (c : ℕ) → c < size → at amounts.items c ≡ column_at columns.now place component c) }
+    ensures sized { IfOk result (λ amounts. length amounts.items ≡ size) }
+    ensures every { IfOk result (λ amounts. (c : ℕ) → c < size →
+        at amounts.items c ≡ column_at columns.now place component c) }
 {
     match place {
         None => unit_row(alloc, size, component),

@@ -1,10 +1,10 @@
 ghost use Rattle.std.specs.Prelude.{◌≡◌, ℕ, ◌<◌, ◌≤◌, ◌^◌, length, ℤ, pos, IfOk, unsigned_abs};
-ghost use Rattle.lp_laws.specs.Vectors.{dot};
-ghost use Rattle.lp_basis.specs.Rows.{at};
-ghost use Rattle.lp_core.specs.Weights.{IsLowest, IsMultiple, FitsRow, CanWeigh, AreFractions};
-ghost use Rattle.lp_core.specs.Weights.{FitsCommon, IsCommon, over, FitsWeights, AreWeights};
+ghost use Rattle.cal_math.specs.Vectors.{at, dot};
+ghost use Rattle.lp_core.specs.Weights.{IsLowest, FitsRow, CanWeigh, AreFractions};
+ghost use Rattle.lp_core.specs.Weights.{FitsCommon, IsCommon, numerator_over, FitsWeights, AreWeights};
 
-use lp_basis::{Row, gcd, product};
+use cal_whole::{gcd, least_common_multiple};
+use lp_basis::{Row, product};
 use std::alloc::{AllocError, Global};
 
 /// A number of at least 0 in lowest terms.
@@ -26,17 +26,6 @@ fn lowest(above: u128, below: u128) -> Fraction
     }
 }
 
-/// The least common multiple.
-fn multiple(a: u128, b: u128) -> u128
-    requires a_some { 1 ≤ a }
-    requires b_some { 1 ≤ b }
-    requires a_small { a ≤ 2 ^ 62 }
-    requires b_small { b ≤ 2 ^ 62 }
-    ensures { IsMultiple a b result }
-{
-    a * (b / gcd(b, a))
-}
-
 /// The weight at the place of a row: its product with the target over its own product.
 fn fraction_of(row: &Row, target: &[i128]) -> Fraction
     requires { (m : ℕ) × (w : ℕ) × FitsRow m w row.now target.now }
@@ -53,7 +42,8 @@ pub(crate) fn fractions_of(
     rows: &[Row],
     target: &[i128],
 ) -> Result<Vec<Fraction>, AllocError>
-    requires { (b : ℕ) × (w : ℕ) × (columns : ℕ → ℕ → ℤ) × CanWeigh b w columns rows.now target.now }
+    requires { (b : ℕ) × (w : ℕ) × (columns : ℕ → ℕ → ℤ)
+        × CanWeigh b w columns rows.now target.now }
     ensures { IfOk result (λ fractions. AreFractions rows.now target.now fractions.items) }
 {
     let mut fractions = Vec::new(alloc);
@@ -71,16 +61,16 @@ pub(crate) fn parts_of(fractions: &[Fraction]) -> u128
 {
     let mut parts = 1;
     'fractions: for j in 0..fractions.len() {
-        parts = multiple(parts, fractions[j].denominator);
+        parts = least_common_multiple(parts, fractions[j].denominator);
     }
     parts
 }
 
 /// A fraction over `parts`.
 fn weight_of(fraction: Fraction, parts: u128) -> i128
-    requires some { 1 ≤ fraction.denominator }
-    requires small { over fraction parts ≤ 2 ^ 112 }
-    ensures { result ≡ pos (over fraction parts) }
+    requires positive { 1 ≤ fraction.denominator }
+    requires small { numerator_over fraction parts ≤ 2 ^ 112 }
+    ensures { result ≡ pos (numerator_over fraction parts) }
 {
     let weight = fraction.numerator * (parts / fraction.denominator);
     weight as i128

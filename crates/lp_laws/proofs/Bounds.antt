@@ -8,13 +8,13 @@ use Rattle.cal_math.specs.Whole.{*ℤ_assoc}
 use Rattle.lp_laws.proofs.Pigeon.{product_of}
 use Rattle.cal_math.specs.Sums.{sum_below}
 use Rattle.lp_laws.proofs.Mean.{product-le}
-use Rattle.lp_laws.proofs.Sums.{sum-same, sum-zero, sum-le, sum-swap, dot_one, dot-scale, dot_scaled}
+use Rattle.cal_math.specs.Vectors.{sum_to, dot}
+use Rattle.cal_math.proofs.Vectors.{sum-same, sum-zero, sum-le, sum-swap, dot_one, dot-scale, dot_scaled}
+use Rattle.lp_laws.proofs.Primitive.{one_from_primitive}
 use Rattle.lp_laws.proofs.Skip.{skip, skip_below, skip_apart, skip_covers, sum_skip, put, put_same, put_other, unit, unit_same, unit_other}
 use Rattle.lp_laws.proofs.Exchange.{IsBasis-from_exchange}
 use Rattle.lp_laws.proofs.Fraction.{IsFraction, highs, highs_least, lows, lows_zero, highs_some, fraction_high, fraction_below, fraction_low}
 use Rattle.lp_laws.proofs.Count.{IsBox, own-le_unit}
-use Rattle.lp_laws.proofs.Bezout.{one_from_primitive}
-use Rattle.lp_laws.specs.Vectors.{sum_to, dot}
 use Rattle.lp_laws.specs.Bases.{IsBasis, IsExchange, IsPlain, IsPrimitive}
 
 -- ---- the box from the columns
@@ -113,8 +113,8 @@ number-le_product s m columns rows own basis i k lt within some z value low leng
 
     exchange : IsExchange (suc s) m i columns rows own (unit k) turn columns' rows' own'
     exchange = record {
-      turned = record { one = turn_one (rows i k); is = λ c less. ap (λ (f : ℕ → ℤ). f c) (put_same i turned old_rows) };
-      some = rw (put_same i (pos d) old_own) (omega (arith, ints));
+      turned = record { one = turn_one (rows i k); exact = λ c less. ap (λ (f : ℕ → ℤ). f c) (put_same i turned old_rows) };
+      positive = rw (put_same i (pos d) old_own) (omega (arith, ints));
       enters = λ c less. ap (λ (f : ℕ → ℤ). f c) (put_same i (unit k) columns);
       stays = λ j less ne c inside. ap (λ (f : ℕ → ℤ). f c) (put_other i (unit k) columns j ne);
       own_is = put_same i (pos d) old_own ∙ sym turned_unit ∙ ap (λ (f : ℕ → ℤ). dot (suc s) f (unit k)) (sym (put_same i turned old_rows));

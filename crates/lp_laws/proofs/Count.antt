@@ -4,9 +4,9 @@ use Rattle.std.specs.Prelude.{ℤ, pos, negsuc, ◌+ℤ◌, ◌-ℤ◌, ◌*ℤ�
 use Rattle.std.proofs.lemmas.Int.{ints}
 use Rattle.cal_math.specs.Whole.{*ℤ-+ℤ, *ℤ--ℤ, *ℤ-≤}
 use Rattle.lp_laws.proofs.Pigeon.{product_of, count_digits}
-use Rattle.lp_laws.proofs.Sums.{dot_one, dot-sub, dot-scale}
+use Rattle.cal_math.specs.Vectors.{dot}
+use Rattle.cal_math.proofs.Vectors.{dot_one, dot-sub, dot-scale}
 use Rattle.lp_laws.proofs.Fraction.{IsFraction, fraction, whole_part, dot-fraction, IsFraction-fraction}
-use Rattle.lp_laws.specs.Vectors.{dot}
 use Rattle.lp_laws.specs.Bases.{IsBasis}
 
 -- each vector with factors from 0 to below 1 lies, at the components that `kept` names, in a box of these lengths

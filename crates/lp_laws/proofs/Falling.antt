@@ -4,12 +4,12 @@ use Rattle.std.specs.Prelude.{ℤ, pos, ◌-ℤ◌, ◌*ℤ◌, ◌≤ℤ◌, �
 use Rattle.std.proofs.lemmas.Int.{ints, by_lt_z}
 use Rattle.std.proofs.lemmas.Bool.{cases_eq}
 use Rattle.cal_math.specs.Whole.{*ℤ--ℤ, *ℤ_comm, *ℤ-≤}
-use Rattle.lp_laws.proofs.Sums.{times_zero, sum-zero, sum-le, dot_same, dot_difference}
-use Rattle.lp_laws.proofs.Exchange.{one-le-*ℤ}
+use Rattle.cal_math.specs.Vectors.{dot}
+use Rattle.cal_math.proofs.Products.{times_zero, one-le-*ℤ}
+use Rattle.cal_math.proofs.Vectors.{sum-zero, sum-le, dot_same, dot_difference}
 use Rattle.lp_laws.proofs.Fraction.{Common, common, expanded}
 use Rattle.lp_laws.proofs.Unique.{kills_all, only_place}
 use Rattle.lp_laws.proofs.Lexicographic.{IsLexAbove-scale, IsLexAbove-sum, IsLexAbove-divided}
-use Rattle.lp_laws.specs.Vectors.{dot}
 use Rattle.lp_laws.specs.Bases.{IsBasis}
 use Rattle.lp_laws.specs.Orders.{IsLexAbove}
 
@@ -47,10 +47,10 @@ some_place n m columns rows own basis least x none c lt =
     (λ above. absurd (omega (
       arith,
       ints,
-      expanded n m columns rows own all.all all.parts basis all.is x c lt,
-      sum-le m (λ j. (all.parts j *ℤ dot n (rows j) x) *ℤ columns j c) (λ j. pos 0) (λ j less. below (all.parts j) (dot n (rows j) x) (columns j c) (all.is.parts_some j less) (none j less) (least j c less lt)),
+      expanded n m columns rows own all.all all.parts basis all.exact x c lt,
+      sum-le m (λ j. (all.parts j *ℤ dot n (rows j) x) *ℤ columns j c) (λ j. pos 0) (λ j less. below (all.parts j) (dot n (rows j) x) (columns j c) (all.exact.parts_some j less) (none j less) (least j c less lt)),
       sum-zero m (λ j. pos 0) (λ j less. refl),
-      one-le-*ℤ all.all (x c) all.is.some (omega (arith, ints, above)),
+      one-le-*ℤ all.all (x c) all.exact.positive (omega (arith, ints, above)),
     )))
     (λ le. le)
   where

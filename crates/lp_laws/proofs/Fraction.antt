@@ -7,22 +7,23 @@ use Rattle.std.proofs.lemmas.Int.{ints, by_lt_z}
 use Rattle.std.proofs.lemmas.Bool.{cases_eq}
 use borrow.Author.Differences.{up, down}
 use Rattle.cal_math.specs.Whole.{*ℤ-+ℤ, *ℤ--ℤ, *ℤ_comm, *ℤ_assoc, *ℤ-≤, floor-le, lt-floor}
-use Rattle.lp_laws.proofs.Sums.{times_zero, sum-scale, sum-sub, sum-zero, sum-le, dot-sub, dot-scale, dot_basis}
-use Rattle.lp_laws.proofs.Exchange.{one-le-*ℤ}
-use Rattle.lp_laws.specs.Vectors.{sum_to, dot}
+use Rattle.cal_math.specs.Vectors.{sum_to, dot}
+use Rattle.cal_math.proofs.Products.{times_zero, one-le-*ℤ}
+use Rattle.cal_math.proofs.Vectors.{sum-scale, sum-sub, sum-zero, sum-le, dot-sub, dot-scale}
+use Rattle.lp_laws.proofs.Bases.{dot_basis}
 use Rattle.lp_laws.specs.Bases.{IsBasis}
 
 -- ---- a common multiple of the own products
 
 pub record IsCommon (m : ℕ) (own : ℕ → ℤ) (all : ℤ) (parts : ℕ → ℤ) : Type 0 where
-  pub some : pos 1 ≤ℤ all
+  pub positive : pos 1 ≤ℤ all
   pub parts_some : (j : ℕ) → j < m → pos 1 ≤ℤ parts j
   pub parts_are : (j : ℕ) → j < m → parts j *ℤ own j ≡ all
 
 pub record Common (m : ℕ) (own : ℕ → ℤ) : Type 0 where
   pub all : ℤ
   pub parts : ℕ → ℤ
-  pub is : IsCommon m own all parts
+  pub exact : IsCommon m own all parts
 
 more : (m : ℕ) (own : ℕ → ℤ) (all : ℤ) (parts : ℕ → ℤ) (j : ℕ) → (j ≡ m) ⊎ (j ≡ m → ⊥) → ℤ
 more m own all parts j (inl e) = all
@@ -31,7 +32,7 @@ more m own all parts j (inr ne) = own m *ℤ parts j
 more_some : (m : ℕ) (own : ℕ → ℤ) (all : ℤ) (parts : ℕ → ℤ) → IsCommon m own all parts → pos 1 ≤ℤ own m → (j : ℕ) → j < suc m → (t : (j ≡ m) ⊎ (j ≡ m → ⊥)) →
     pos 1 ≤ℤ more m own all parts j t
 unfolding more
-more_some m own all parts is some j lt (inl e) = is.some
+more_some m own all parts is some j lt (inl e) = is.positive
 more_some m own all parts is some j lt (inr ne) = one-le-*ℤ (own m) (parts j) some (is.parts_some j (omega arith))
 
 more_is : (m : ℕ) (own : ℕ → ℤ) (all : ℤ) (parts : ℕ → ℤ) → IsCommon m own all parts → (j : ℕ) → j < suc m → (t : (j ≡ m) ⊎ (j ≡ m → ⊥)) →
@@ -41,17 +42,17 @@ more_is m own all parts is j lt (inl e) = ap (λ (k : ℕ). all *ℤ own k) e �
 more_is m own all parts is j lt (inr ne) = *ℤ_assoc (own m) (parts j) (own j) ∙ ap (λ (z : ℤ). own m *ℤ z) (is.parts_are j (omega arith))
 
 pub common : (m : ℕ) (own : ℕ → ℤ) → ((j : ℕ) → j < m → pos 1 ≤ℤ own j) → Common m own
-common zero own h = record { all = pos 1; parts = λ j. pos 1; is = record { some = omega (arith, ints); parts_some = λ j lt. omega (arith, ints); parts_are = λ j lt. absurd (omega arith) } }
+common zero own h = record { all = pos 1; parts = λ j. pos 1; exact = record { positive = omega (arith, ints); parts_some = λ j lt. omega (arith, ints); parts_are = λ j lt. absurd (omega arith) } }
 common (suc m) own h =
     let before : Common m own = common m own (λ j lt. h j (omega arith)) in
     let some : pos 1 ≤ℤ own m = h m (omega arith) in
     record {
       all = own m *ℤ before.all;
       parts = λ j. more m own before.all before.parts j (cases_eq j m);
-      is = record {
-        some = one-le-*ℤ (own m) before.all some before.is.some;
-        parts_some = λ j lt. more_some m own before.all before.parts before.is some j lt (cases_eq j m);
-        parts_are = λ j lt. more_is m own before.all before.parts before.is j lt (cases_eq j m);
+      exact = record {
+        positive = one-le-*ℤ (own m) before.all some before.exact.positive;
+        parts_some = λ j lt. more_some m own before.all before.parts before.exact some j lt (cases_eq j m);
+        parts_are = λ j lt. more_is m own before.all before.parts before.exact j lt (cases_eq j m);
       };
     }
 
@@ -155,12 +156,12 @@ product_high n m columns rows own basis all y is c lt =
     let D : ℤ = all.all in
     let t : ℕ → ℤ = λ j. all.parts j *ℤ dot n (rows j) y in
     let each : (j : ℕ) → j < m → (t j *ℤ columns j c) ≤ℤ ((D -ℤ pos 1) *ℤ pos (up (columns j c))) = λ j less.
-    part_high (t j) (D -ℤ pos 1) (columns j c) (factor_low (all.parts j) (dot n (rows j) y) (all.is.parts_some j less) (is j less).0)
-    (factor_high (all.parts j) (dot n (rows j) y) (own j) D (all.is.parts_some j less) (all.is.parts_are j less) (is j less).1) in
+    part_high (t j) (D -ℤ pos 1) (columns j c) (factor_low (all.parts j) (dot n (rows j) y) (all.exact.parts_some j less) (is j less).0)
+    (factor_high (all.parts j) (dot n (rows j) y) (own j) D (all.exact.parts_some j less) (all.exact.parts_are j less) (is j less).1) in
     omega (
       arith,
       ints,
-      expanded n m columns rows own D all.parts basis all.is y c lt,
+      expanded n m columns rows own D all.parts basis all.exact y c lt,
       sum-le m (λ j. t j *ℤ columns j c) (λ j. (D -ℤ pos 1) *ℤ pos (up (columns j c))) each,
       sum-scale m (D -ℤ pos 1) (λ j. pos (up (columns j c))),
     )
@@ -173,14 +174,14 @@ product_low n m columns rows own basis all y is c lt =
     let t : ℕ → ℤ = λ j. all.parts j *ℤ dot n (rows j) y in
     let each : (j : ℕ) → j < m → (pos 0 -ℤ t j *ℤ columns j c) ≤ℤ ((D -ℤ pos 1) *ℤ pos (down (columns j c))) = λ j less.
     let low : (pos 0 -ℤ (D -ℤ pos 1) *ℤ pos (down (columns j c))) ≤ℤ (t j *ℤ columns j c) =
-    part_low (t j) (D -ℤ pos 1) (columns j c) (factor_low (all.parts j) (dot n (rows j) y) (all.is.parts_some j less) (is j less).0)
-    (factor_high (all.parts j) (dot n (rows j) y) (own j) D (all.is.parts_some j less) (all.is.parts_are j less) (is j less).1) in
+    part_low (t j) (D -ℤ pos 1) (columns j c) (factor_low (all.parts j) (dot n (rows j) y) (all.exact.parts_some j less) (is j less).0)
+    (factor_high (all.parts j) (dot n (rows j) y) (own j) D (all.exact.parts_some j less) (all.exact.parts_are j less) (is j less).1) in
     omega (arith, ints, low) in
     omega (
       arith,
       ints,
       *ℤ--ℤ D (pos 0) (y c),
-      expanded n m columns rows own D all.parts basis all.is y c lt,
+      expanded n m columns rows own D all.parts basis all.exact y c lt,
       sum-sub m (λ j. pos 0) (λ j. t j *ℤ columns j c),
       sum-zero m (λ j. pos 0) (λ j less. refl),
       sum-le m (λ j. pos 0 -ℤ t j *ℤ columns j c) (λ j. (D -ℤ pos 1) *ℤ pos (down (columns j c))) each,
@@ -191,19 +192,19 @@ pub fraction_high : (n m : ℕ) (columns rows : ℕ → ℕ → ℤ) (own : ℕ 
     (c : ℕ) → c < n → y c ≤ℤ highs m columns c
 fraction_high n m columns rows own basis y is c lt =
     let all : Common m own = common m own basis.above in
-    le_cancel all.all (y c) (highs m columns c) all.is.some (product_high n m columns rows own basis all y is c lt) (highs_least m columns c)
+    le_cancel all.all (y c) (highs m columns c) all.exact.positive (product_high n m columns rows own basis all y is c lt) (highs_least m columns c)
 
 pub fraction_below : (n m : ℕ) (columns rows : ℕ → ℕ → ℤ) (own : ℕ → ℤ) → IsBasis n m columns rows own → (y : ℕ → ℤ) → IsFraction n m rows own y →
     (c : ℕ) → c < n → pos 1 ≤ℤ highs m columns c → y c <ℤ highs m columns c
 fraction_below n m columns rows own basis y is c lt some =
     let all : Common m own = common m own basis.above in
-    lt_cancel all.all (y c) (highs m columns c) all.is.some (product_high n m columns rows own basis all y is c lt) some
+    lt_cancel all.all (y c) (highs m columns c) all.exact.positive (product_high n m columns rows own basis all y is c lt) some
 
 pub fraction_low : (n m : ℕ) (columns rows : ℕ → ℕ → ℤ) (own : ℕ → ℤ) → IsBasis n m columns rows own → (y : ℕ → ℤ) → IsFraction n m rows own y →
     (c : ℕ) → c < n → (pos 0 -ℤ lows m columns c) ≤ℤ y c
 fraction_low n m columns rows own basis y is c lt =
     let all : Common m own = common m own basis.above in
-    let low : (pos 0 -ℤ y c) ≤ℤ lows m columns c = le_cancel all.all (pos 0 -ℤ y c) (lows m columns c) all.is.some (product_low n m columns rows own basis all y is c lt) (lows_least m columns c) in
+    let low : (pos 0 -ℤ y c) ≤ℤ lows m columns c = le_cancel all.all (pos 0 -ℤ y c) (lows m columns c) all.exact.positive (product_low n m columns rows own basis all y is c lt) (lows_least m columns c) in
     omega (arith, ints, low)
 
 -- ---- columns with no number below 0 at a component
@@ -237,7 +238,7 @@ highs_some n m columns rows own basis c lt h =
     (λ le.
     let e : highs m columns c ≡ pos 0 = omega (arith, ints, highs_least m columns c) in
     let all : Common m own = common m own basis.above in
-    let sum_is : all.all *ℤ pos 1 ≡ sum_to m (λ j. (all.parts j *ℤ dot n (rows j) (λ k. pos 1)) *ℤ columns j c) = expanded n m columns rows own all.all all.parts basis all.is (λ k. pos 1) c lt in
+    let sum_is : all.all *ℤ pos 1 ≡ sum_to m (λ j. (all.parts j *ℤ dot n (rows j) (λ k. pos 1)) *ℤ columns j c) = expanded n m columns rows own all.all all.parts basis all.exact (λ k. pos 1) c lt in
     let zero_is : sum_to m (λ j. (all.parts j *ℤ dot n (rows j) (λ k. pos 1)) *ℤ columns j c) ≡ pos 0 =
     sum-zero m (λ j. (all.parts j *ℤ dot n (rows j) (λ k. pos 1)) *ℤ columns j c) (λ j less. ap (λ (z : ℤ). (all.parts j *ℤ dot n (rows j) (λ k. pos 1)) *ℤ z) (highs_zero m columns c e j less (h j less)) ∙ times_zero (all.parts j *ℤ dot n (rows j) (λ k. pos 1))) in
-    absurd (omega (arith, ints, sum_is, zero_is, all.is.some)))
+    absurd (omega (arith, ints, sum_is, zero_is, all.exact.positive)))

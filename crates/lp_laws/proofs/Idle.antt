@@ -1,32 +1,15 @@
 -- Columns of weight 0 change their places without effect, and where a dear column keeps a weight, the potentials prove that there is no plan.
-use Rattle.std.proofs.Common.{◌≡◌, ℕ, zero, suc, ◌<◌, ◌≢◌, refl, arith, ap, sym, ◌∙◌, subst, inl, inr}
-use Rattle.std.specs.Prelude.{ℤ, pos, negsuc, ◌⊎◌, ◌-ℤ◌, ◌*ℤ◌, ◌≤ℤ◌}
+use Rattle.std.proofs.Common.{◌≡◌, ℕ, ◌<◌, ◌≢◌, refl, arith, ap, sym, ◌∙◌, subst, inl, inr}
+use Rattle.std.specs.Prelude.{ℤ, pos, ◌*ℤ◌, ◌≤ℤ◌}
 use Rattle.std.proofs.lemmas.Int.{ints}
 use Rattle.std.proofs.lemmas.Bool.{cases_eq}
-use Rattle.cal_math.specs.Whole.{*ℤ--ℤ, *ℤ-≤}
-use Rattle.lp_laws.proofs.Sums.{times_zero, sum-same, sum-le, sum-zero, dot_same, dot-scale, dot-combined, dot_basis}
-use Rattle.lp_laws.proofs.Exchange.{zero_from_product, one_from_product, one-le-*ℤ}
+use Rattle.cal_math.specs.Vectors.{sum_to, dot}
+use Rattle.cal_math.proofs.Products.{zero_times, least-*ℤ, least_from_product, times_zero, zero_from_product, one_from_product, one-le-*ℤ}
+use Rattle.cal_math.proofs.Vectors.{sum-above, sum-same, dot_same, dot-scale, dot-combined}
+use Rattle.lp_laws.proofs.Bases.{dot_basis}
 use Rattle.lp_laws.proofs.Fraction.{Common, common, expanded}
 use Rattle.lp_laws.proofs.Unique.{only_place}
-use Rattle.lp_laws.specs.Vectors.{sum_to, dot}
 use Rattle.lp_laws.specs.Bases.{IsBasis, IsPriced}
-
-zero_times : (a : ℤ) → pos 0 *ℤ a ≡ pos 0
-zero_times a = omega (arith, ints)
-
-pub least-*ℤ : (a b : ℤ) → pos 0 ≤ℤ a → pos 0 ≤ℤ b → pos 0 ≤ℤ (a *ℤ b)
-least-*ℤ a b h k = omega (arith, ints, *ℤ-≤ a (pos 0) b h k, times_zero a)
-
-pub least_from_product : (a b : ℤ) → pos 1 ≤ℤ a → pos 0 ≤ℤ (a *ℤ b) → pos 0 ≤ℤ b
-least_from_product a b h k =
-    elim (sign b) [
-      | inl some ↦ some
-      | inr less ↦ absurd (omega (arith, ints, k, *ℤ--ℤ a (pos 0) b, times_zero a, one-le-*ℤ a (pos 0 -ℤ b) h less))
-    ]
-  where
-    sign : (b : ℤ) → (pos 0 ≤ℤ b) ⊎ (pos 1 ≤ℤ (pos 0 -ℤ b))
-    sign (pos n) = inl (omega (arith, ints))
-    sign (negsuc n) = inr (omega (arith, ints))
 
 -- a row that kills all columns of a basis but the one at i kills what the row of i kills, and the other way round
 pub stays_killed : (n m : ℕ) (columns rows : ℕ → ℕ → ℤ) (own : ℕ → ℤ) → IsBasis n m columns rows own → (u : ℕ → ℤ) (i : ℕ) → i < m → ((j : ℕ) → j < m → j ≢ i → dot n u (columns j) ≡ pos 0) → pos 1 ≤ℤ dot n u (columns i) →
@@ -42,7 +25,7 @@ stays_weighted : (n m i : ℕ) (columns rows : ℕ → ℕ → ℤ) (own : ℕ �
 stays_weighted n m i columns rows own columns' rows' own' x basis basis' stays idle all l lt =
     sym (dot-scale n all.all (rows' l) x)
     ∙ dot_same n (rows' l) (λ c. all.all *ℤ x c) (rows' l) (λ c. sum_to m (λ j. factors j *ℤ columns' j c)) (λ c less. refl)
-    (λ c less. expanded n m columns rows own all.all all.parts basis all.is x c less ∙ sum-same m (λ j. factors j *ℤ columns j c) (λ j. factors j *ℤ columns' j c) (λ j q. same c less j q))
+    (λ c less. expanded n m columns rows own all.all all.parts basis all.exact x c less ∙ sum-same m (λ j. factors j *ℤ columns j c) (λ j. factors j *ℤ columns' j c) (λ j q. same c less j q))
     ∙ dot_basis n m columns' rows' own' factors basis' l lt
   where
     factors : ℕ → ℤ
@@ -65,38 +48,28 @@ pub stays_least : (n m i : ℕ) (columns rows : ℕ → ℕ → ℤ) (own : ℕ 
     (l : ℕ) → l < m → pos 0 ≤ℤ dot n (rows l) x → pos 0 ≤ℤ dot n (rows' l) x
 stays_least n m i columns rows own columns' rows' own' x basis basis' stays idle l lt least =
     let all : Common m own = common m own basis.above in
-    least_from_product all.all (dot n (rows' l) x) all.is.some
+    least_from_product all.all (dot n (rows' l) x) all.exact.positive
     (subst (λ (z : ℤ). pos 0 ≤ℤ z) (sym (stays_weighted n m i columns rows own columns' rows' own' x basis basis' stays idle all l lt))
-    (least-*ℤ (all.parts l *ℤ dot n (rows l) x) (own' l) (least-*ℤ (all.parts l) (dot n (rows l) x) (omega (arith, ints, all.is.parts_some l lt)) least) (omega (arith, ints, basis'.above l lt))))
+    (least-*ℤ (all.parts l *ℤ dot n (rows l) x) (own' l) (least-*ℤ (all.parts l) (dot n (rows l) x) (omega (arith, ints, all.exact.parts_some l lt)) least) (omega (arith, ints, basis'.above l lt))))
 
 pub stays_idle : (n m i : ℕ) (columns rows : ℕ → ℕ → ℤ) (own : ℕ → ℤ) (columns' rows' : ℕ → ℕ → ℤ) (own' x : ℕ → ℤ) → IsBasis n m columns rows own → IsBasis n m columns' rows' own' →
     ((j : ℕ) → j < m → j ≢ i → (c : ℕ) → c < n → columns' j c ≡ columns j c) → dot n (rows i) x ≡ pos 0 →
     (l : ℕ) → l < m → dot n (rows l) x ≡ pos 0 → dot n (rows' l) x ≡ pos 0
 stays_idle n m i columns rows own columns' rows' own' x basis basis' stays idle l lt none =
     let all : Common m own = common m own basis.above in
-    zero_from_product all.all (dot n (rows' l) x) all.is.some
+    zero_from_product all.all (dot n (rows' l) x) all.exact.positive
     (stays_weighted n m i columns rows own columns' rows' own' x basis basis' stays idle all l lt
     ∙ ap (λ (z : ℤ). (all.parts l *ℤ z) *ℤ own' l) none ∙ ap (λ (z : ℤ). z *ℤ own' l) (times_zero (all.parts l)) ∙ zero_times (own' l))
 
 -- ---- a proof of none
-
-sum-some : (n k : ℕ) (f : ℕ → ℤ) → k < n → ((i : ℕ) → i < n → pos 0 ≤ℤ f i) → pos 1 ≤ℤ f k → pos 1 ≤ℤ sum_to n f
-sum-some zero k f lt h some = absurd (omega arith)
-sum-some (suc n) k f lt h some =
-    elim (cases_eq k n) [
-      | inl e ↦
-          let here : pos 1 ≤ℤ f n = subst (λ (i : ℕ). pos 1 ≤ℤ f i) e some in
-          omega (arith, ints, here, sum-le n (λ i. pos 0) f (λ i less. h i (omega arith)), sum-zero n (λ i. pos 0) (λ i less. refl))
-      | inr ne ↦ omega (arith, ints, sum-some n k f (omega arith) (λ i less. h i (omega arith)) some, h n (omega arith))
-    ]
 
 -- Costs are at least 0, and so are the weights. Where one column has a cost and a weight above 0, the target has a price above 0.
 pub price_above : (n m : ℕ) (columns rows : ℕ → ℕ → ℤ) (own costs numbers x : ℕ → ℤ) (denominator : ℕ) → IsBasis n m columns rows own → IsPriced n m columns costs numbers denominator →
     ((j : ℕ) → j < m → pos 0 ≤ℤ costs j) → ((j : ℕ) → j < m → pos 0 ≤ℤ dot n (rows j) x) →
     (l : ℕ) → l < m → pos 1 ≤ℤ costs l → pos 1 ≤ℤ dot n (rows l) x → pos 1 ≤ℤ dot n numbers x
 price_above n m columns rows own costs numbers x denominator basis priced cost_least least l lt cost_some some =
-    one_from_product all.all (dot n numbers x) all.is.some
-    (subst (λ (z : ℤ). pos 1 ≤ℤ z) (sym total) (sum-some m l (λ j. factors j *ℤ dot n numbers (columns j)) lt each one))
+    one_from_product all.all (dot n numbers x) all.exact.positive
+    (subst (λ (z : ℤ). pos 1 ≤ℤ z) (sym total) (sum-above m l (λ j. factors j *ℤ dot n numbers (columns j)) lt each one))
   where
     all : Common m own
     all = common m own basis.above
@@ -107,15 +80,15 @@ price_above n m columns rows own costs numbers x denominator basis priced cost_l
     total : all.all *ℤ dot n numbers x ≡ sum_to m (λ j. factors j *ℤ dot n numbers (columns j))
     total =
         sym (dot-scale n all.all numbers x)
-        ∙ dot_same n numbers (λ c. all.all *ℤ x c) numbers (λ c. sum_to m (λ j. factors j *ℤ columns j c)) (λ c less. refl) (λ c less. expanded n m columns rows own all.all all.parts basis all.is x c less)
+        ∙ dot_same n numbers (λ c. all.all *ℤ x c) numbers (λ c. sum_to m (λ j. factors j *ℤ columns j c)) (λ c less. refl) (λ c less. expanded n m columns rows own all.all all.parts basis all.exact x c less)
         ∙ dot-combined n m numbers factors columns
 
     each : (j : ℕ) → j < m → pos 0 ≤ℤ (factors j *ℤ dot n numbers (columns j))
     each j less =
-        least-*ℤ (factors j) (dot n numbers (columns j)) (least-*ℤ (all.parts j) (dot n (rows j) x) (omega (arith, ints, all.is.parts_some j less)) (least j less))
+        least-*ℤ (factors j) (dot n numbers (columns j)) (least-*ℤ (all.parts j) (dot n (rows j) x) (omega (arith, ints, all.exact.parts_some j less)) (least j less))
         (subst (λ (z : ℤ). pos 0 ≤ℤ z) (sym (priced.meets j less)) (least-*ℤ (pos denominator) (costs j) (omega (arith, ints)) (cost_least j less)))
 
     one : pos 1 ≤ℤ (factors l *ℤ dot n numbers (columns l))
     one =
-        one-le-*ℤ (factors l) (dot n numbers (columns l)) (one-le-*ℤ (all.parts l) (dot n (rows l) x) (all.is.parts_some l lt) some)
-        (subst (λ (z : ℤ). pos 1 ≤ℤ z) (sym (priced.meets l lt)) (one-le-*ℤ (pos denominator) (costs l) (omega (arith, ints, priced.some)) cost_some))
+        one-le-*ℤ (factors l) (dot n numbers (columns l)) (one-le-*ℤ (all.parts l) (dot n (rows l) x) (all.exact.parts_some l lt) some)
+        (subst (λ (z : ℤ). pos 1 ≤ℤ z) (sym (priced.meets l lt)) (one-le-*ℤ (pos denominator) (costs l) (omega (arith, ints, priced.positive)) cost_some))

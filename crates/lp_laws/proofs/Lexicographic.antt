@@ -5,9 +5,8 @@ use Rattle.std.proofs.lemmas.Int.{ints}
 use Rattle.std.proofs.lemmas.Bool.{cases_eq, cases_lt}
 use Rattle.std.proofs.Math.Nat.{mul-le-mul_right}
 use Rattle.cal_math.specs.Whole.{*ℤ--ℤ, *ℤ_left}
-use Rattle.lp_laws.proofs.Sums.{times_zero}
+use Rattle.cal_math.proofs.Products.{times_zero, zero_from_product, one_from_product, one-le-*ℤ}
 use Rattle.lp_laws.proofs.Pigeon.{code}
-use Rattle.lp_laws.proofs.Exchange.{zero_from_product, one_from_product, one-le-*ℤ}
 use Rattle.lp_laws.specs.Orders.{IsLexAbove}
 
 -- ---- lists in order are numbers in order

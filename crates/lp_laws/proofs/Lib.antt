@@ -1,11 +1,11 @@
 pub mod Pigeon
 pub mod Mean
-pub mod Sums
+pub mod Bases
 pub mod Skip
 pub mod Exchange
 pub mod Fraction
 pub mod Count
-pub mod Bezout
+pub mod Primitive
 pub mod Bounds
 pub mod Potentials
 pub mod Parts

@@ -9,9 +9,9 @@ use Rattle.lp_laws.proofs.Pigeon.{code}
 use Rattle.lp_laws.proofs.Lexicographic.{code_falls}
 use Rattle.lp_laws.proofs.Falling.{prices_fall}
 use Rattle.lp_laws.specs.Orders.{IsLexAbove}
-use Rattle.lp_laws.proofs.Exchange.{one-le-*ℤ}
-use Rattle.lp_laws.proofs.Sums.{dot_same, dot_scaled}
-use Rattle.lp_laws.specs.Vectors.{dot}
+use Rattle.cal_math.specs.Vectors.{dot}
+use Rattle.cal_math.proofs.Products.{one-le-*ℤ}
+use Rattle.cal_math.proofs.Vectors.{dot_same, dot_scaled}
 use Rattle.lp_laws.specs.Bases.{IsBasis, IsPriced}
 
 -- ---- a multiple of all numbers up to n

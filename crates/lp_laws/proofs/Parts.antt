@@ -7,12 +7,12 @@ use Rattle.cal_math.specs.Whole.{*ℤ-+ℤ, *ℤ--ℤ, *ℤ_comm}
 use Rattle.cal_math.specs.Sums.{sum_below}
 use Rattle.lp_laws.proofs.Mean.{product-le}
 use Rattle.lp_laws.proofs.Pigeon.{product_of}
-use Rattle.lp_laws.proofs.Sums.{sum-same, dot-scale, dot_same}
+use Rattle.cal_math.specs.Vectors.{dot}
+use Rattle.cal_math.proofs.Vectors.{sum-same, dot-scale, dot_same}
 use Rattle.lp_laws.proofs.Fraction.{fraction, whole_part, dot-fraction, highs, highs_least}
 use Rattle.lp_laws.proofs.Count.{count}
 use Rattle.lp_laws.proofs.Bounds.{IsBox-from_sides, plain, sum_below-is}
 use Rattle.lp_laws.proofs.Potentials.{highs_total}
-use Rattle.lp_laws.specs.Vectors.{dot}
 use Rattle.lp_laws.specs.Bases.{IsBasis, IsPlain, IsWholeAt}
 
 pub parts-le : (n w : ℕ) (columns rows : ℕ → ℕ → ℤ) (own target : ℕ → ℤ) (parts : ℕ) → IsBasis n n columns rows own → IsPlain n n w columns →

@@ -9,12 +9,12 @@ use borrow.Author.Differences.{up, down}
 use Rattle.lp_laws.proofs.Pigeon.{product_of}
 use Rattle.cal_math.specs.Sums.{sum_below}
 use Rattle.lp_laws.proofs.Mean.{product-le, power_mean}
-use Rattle.lp_laws.proofs.Sums.{sum-same, sum-zero, sum-le, sum-add, sum-swap, dot_one, dot-scale, dot_same, dot_scaled}
+use Rattle.cal_math.specs.Vectors.{sum_to, dot}
+use Rattle.cal_math.proofs.Products.{zero_from_product}
+use Rattle.cal_math.proofs.Vectors.{sum-same, sum-zero, sum-le, sum-add, sum-swap, dot_one, dot-scale, dot_same, dot_scaled}
 use Rattle.lp_laws.proofs.Skip.{skip, skip_below, skip_before, skip_after, skip_apart, sum_skip, put, put_same, put_other, unit, unit_same, unit_other}
-use Rattle.lp_laws.proofs.Exchange.{zero_from_product}
 use Rattle.lp_laws.proofs.Fraction.{highs, highs_least, lows}
 use Rattle.lp_laws.proofs.Bounds.{number-le_product, IsSide, plain, signed, sum_below-is, sum_times, up_plain}
-use Rattle.lp_laws.specs.Vectors.{sum_to, dot}
 use Rattle.lp_laws.specs.Bases.{IsBasis, IsPlain, IsPriced}
 
 *ℤ-zero : (a : ℤ) → a *ℤ pos 0 ≡ pos 0
@@ -65,7 +65,7 @@ IsBasis-wide n m columns rows own costs numbers denominator basis priced = recor
     ]
   ];
   above = λ j lt. elim (cases_eq j m) [
-    | inl e ↦ subst (λ (k : ℕ). pos 1 ≤ℤ O k) (sym e) (rw (put_same m (pos denominator) own) (omega (arith, ints, priced.some)))
+    | inl e ↦ subst (λ (k : ℕ). pos 1 ≤ℤ O k) (sym e) (rw (put_same m (pos denominator) own) (omega (arith, ints, priced.positive)))
     | inr ne ↦ rw (put_other m (pos denominator) own j ne) (basis.above j (omega arith))
   ];
   complete = λ x zeros c lt.
@@ -73,7 +73,7 @@ IsBasis-wide n m columns rows own costs numbers denominator basis priced = recor
       let z : dot n (rows j) x +ℤ pos 0 *ℤ x n ≡ pos 0 = sym (dot_wide_any n (rows j) x (pos 0)) ∙ ap (λ (f : ℕ → ℤ). dot (suc n) f x) (sym (put_other m W (λ j. put n (pos 0) (rows j)) j (λ e. omega arith))) ∙ zeros j (omega arith) in
       omega (arith, ints, z)) in
       elim (cases_eq c n) [
-        | inl e ↦ subst (λ (k : ℕ). x k ≡ pos 0) (sym e) (zero_from_product (pos denominator) (x n) (omega (arith, ints, priced.some))
+        | inl e ↦ subst (λ (k : ℕ). x k ≡ pos 0) (sym e) (zero_from_product (pos denominator) (x n) (omega (arith, ints, priced.positive))
             (let z : dot n (λ c. negsuc 0 *ℤ numbers c) x +ℤ pos denominator *ℤ x n ≡ pos 0 = sym (dot_wide_any n (λ c. negsuc 0 *ℤ numbers c) x (pos denominator)) ∙ ap (λ (f : ℕ → ℤ). dot (suc n) f x) (sym (put_same m W (λ j. put n (pos 0) (rows j)))) ∙ zeros m (omega arith) in
             let none : dot n (λ c. negsuc 0 *ℤ numbers c) x ≡ pos 0 = zero_dot n (λ c. negsuc 0 *ℤ numbers c) x inner in
             omega (arith, ints, z, none)))
@@ -199,7 +199,7 @@ denominator-le n w columns rows own costs numbers denominator basis is priced z 
 
     bound : unsigned_abs (wide_rows n n rows numbers denominator n n) ≤ product_of n lengths
     bound = number-le_product n (suc n) (wide_columns n n columns costs) (wide_rows n n rows numbers denominator) (wide_own n own denominator)
-        (IsBasis-wide n n columns rows own costs numbers denominator basis priced) n n (omega arith) (omega arith) (omega (arith, at_n, priced.some)) z
+        (IsBasis-wide n n columns rows own costs numbers denominator basis priced) n n (omega arith) (omega arith) (omega (arith, at_n, priced.positive)) z
         (ap (λ (f : ℕ → ℤ). dot (suc n) f z) (wide_at n n rows numbers denominator) ∙ value)
         (λ c. pos 0) lengths
         (λ c lt. subst (λ (b : ℕ). IsSide (suc n) (put n (unit n) (wide_columns n n columns costs)) b (pos 0) (lengths c)) (sym (skip_before n c lt)) (plain_side n n c columns costs w is lt (λ e. omega arith)))

@@ -4,10 +4,10 @@ use Rattle.std.specs.Prelude.{ℤ, pos, negsuc, ◌-ℤ◌, ◌*ℤ◌, unsigned
 use Rattle.std.proofs.lemmas.Int.{ints}
 use Rattle.cal_math.specs.Whole.{*ℤ--ℤ}
 use Rattle.lp_laws.proofs.Skip.{put_same, put_other}
-use Rattle.lp_laws.proofs.Bezout.{one_from_primitive}
+use Rattle.cal_math.specs.Vectors.{dot}
+use Rattle.lp_laws.proofs.Primitive.{one_from_primitive}
 use Rattle.lp_laws.proofs.Potentials.{wide_row, denominator-le, potential-le}
 use Rattle.lp_laws.proofs.Unique.{zero_row}
-use Rattle.lp_laws.specs.Vectors.{dot}
 use Rattle.lp_laws.specs.Bases.{IsBasis, IsPrimitive, IsPlain, IsPriced, IsReduced}
 
 primitive_from_reduced : (n : ℕ) (numbers : ℕ → ℤ) (denominator : ℕ) → IsReduced n numbers denominator → IsPrimitive (suc n) (wide_row n numbers denominator)

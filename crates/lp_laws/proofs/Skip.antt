@@ -4,8 +4,8 @@ use Rattle.std.specs.Prelude.{ℤ, pos, ◌+ℤ◌}
 use Rattle.std.specs.Prelude.{◌⊎◌}
 use Rattle.std.proofs.lemmas.Int.{ints}
 use Rattle.std.proofs.lemmas.Bool.{cases_eq, cases_lt}
-use Rattle.lp_laws.proofs.Sums.{sum-same}
-use Rattle.lp_laws.specs.Vectors.{sum_to}
+use Rattle.cal_math.specs.Vectors.{sum_to}
+use Rattle.cal_math.proofs.Vectors.{sum-same}
 
 skipped : (k c : ℕ) → (c < k) ⊎ (k ≤ c) → ℕ
 skipped k c (inl lt) = c

@@ -3,10 +3,10 @@ use Rattle.std.proofs.Common.{◌≡◌, ℕ, ◌<◌, ◌≢◌, refl, arith, a
 use Rattle.std.specs.Prelude.{ℤ, pos, ◌-ℤ◌, ◌*ℤ◌, ◌≤ℤ◌, ◌<ℤ◌}
 use Rattle.std.proofs.lemmas.Int.{ints}
 use Rattle.cal_math.specs.Whole.{*ℤ--ℤ, *ℤ_left}
-use Rattle.lp_laws.proofs.Sums.{dot_same, dot_scaled}
-use Rattle.lp_laws.proofs.Exchange.{one-le-*ℤ}
+use Rattle.cal_math.specs.Vectors.{dot}
+use Rattle.cal_math.proofs.Products.{one-le-*ℤ}
+use Rattle.cal_math.proofs.Vectors.{dot_same, dot_scaled}
 use Rattle.lp_laws.proofs.Falling.{lists_above, prices_fall}
-use Rattle.lp_laws.specs.Vectors.{dot}
 use Rattle.lp_laws.specs.Orders.{IsLexAbove}
 use Rattle.lp_laws.specs.Descents.{ListsStayAbove, CostsFall}
 
@@ -51,5 +51,5 @@ costs_fall_at n m i columns columns' rows' own' costs costs' numbers numbers' d 
           new_at i step.within,
           old_is (columns' i),
           *ℤ--ℤ (pos d') (dot n numbers (columns' i)) (pos d *ℤ costs' i),
-          one-le-*ℤ (pos d') (dot n numbers (columns' i) -ℤ pos d *ℤ costs' i) (omega (arith, ints, priced'.some)) gap,
+          one-le-*ℤ (pos d') (dot n numbers (columns' i) -ℤ pos d *ℤ costs' i) (omega (arith, ints, priced'.positive)) gap,
         )

@@ -4,9 +4,9 @@ use Rattle.std.specs.Prelude.{ℤ, pos, ◌+ℤ◌, ◌-ℤ◌, ◌*ℤ◌, ◌�
 use Rattle.std.proofs.lemmas.Int.{ints}
 use Rattle.std.proofs.lemmas.Bool.{cases_eq}
 use Rattle.cal_math.specs.Whole.{*ℤ_assoc, *ℤ_comm, *ℤ_left, *ℤ--ℤ}
-use Rattle.lp_laws.proofs.Exchange.{one-le-*ℤ, same_from_product}
-use Rattle.lp_laws.proofs.Sums.{dot_scaled, dot_difference}
-use Rattle.lp_laws.specs.Vectors.{dot}
+use Rattle.cal_math.specs.Vectors.{dot}
+use Rattle.cal_math.proofs.Products.{one-le-*ℤ, same_from_product}
+use Rattle.cal_math.proofs.Vectors.{dot_scaled, dot_difference}
 use Rattle.lp_laws.specs.Bases.{IsBasis, IsPriced}
 
 -- prices of the costs of the places before k, and those with the cost of place k
@@ -16,7 +16,7 @@ pub IsPriced-more : (n m k : ℕ) (columns rows : ℕ → ℕ → ℤ) (own cost
     ((c : ℕ) → c < n → (pos denominator *ℤ own k) *ℤ numbers' c ≡ pos denominator' *ℤ (own k *ℤ numbers c +ℤ pos denominator *ℤ (costs k *ℤ rows k c))) →
     IsPriced n m columns after numbers' denominator'
 IsPriced-more n m k columns rows own costs before after numbers numbers' denominator denominator' basis lt none here others priced some is = record {
-  some = some;
+  positive = some;
   meets = λ j less. same_from_product scale (dot n numbers' (columns j)) (pos denominator' *ℤ after j) scale_some (sym (scaled j) ∙ elim (cases_eq j k) [
     | inl e ↦ subst (λ (i : ℕ). pos denominator' *ℤ dot n mixed (columns i) ≡ scale *ℤ (pos denominator' *ℤ after i)) (sym e) at_k
     | inr ne ↦ at_other j less ne
@@ -27,7 +27,7 @@ IsPriced-more n m k columns rows own costs before after numbers numbers' denomin
     scale = pos denominator *ℤ own k
 
     scale_some : pos 1 ≤ℤ scale
-    scale_some = one-le-*ℤ (pos denominator) (own k) (omega (arith, ints, priced.some)) (basis.above k lt)
+    scale_some = one-le-*ℤ (pos denominator) (own k) (omega (arith, ints, priced.positive)) (basis.above k lt)
 
     mixed : ℕ → ℤ
     mixed c = own k *ℤ numbers c -ℤ (pos 0 -ℤ pos denominator *ℤ costs k) *ℤ rows k c

@@ -4,12 +4,12 @@ use Rattle.std.specs.Prelude.{ℤ, pos, ◌-ℤ◌, ◌*ℤ◌, ◌≤ℤ◌}
 use Rattle.std.proofs.lemmas.Int.{ints}
 use Rattle.std.proofs.lemmas.Bool.{cases_eq}
 use Rattle.cal_math.specs.Whole.{*ℤ_comm, *ℤ-≤}
-use Rattle.lp_laws.proofs.Sums.{times_zero, sum-zero, dot_one, dot-scale, dot_same, dot_difference, dot-combined}
+use Rattle.cal_math.specs.Vectors.{sum_to, dot}
+use Rattle.cal_math.proofs.Products.{times_zero, zero_from_product, one_from_product, same_from_product}
+use Rattle.cal_math.proofs.Vectors.{sum-zero, dot_one, dot-scale, dot_same, dot_difference, dot-combined}
+use Rattle.lp_laws.proofs.Primitive.{one_from_primitive}
 use Rattle.lp_laws.proofs.Skip.{unit, unit_same, unit_other}
-use Rattle.lp_laws.proofs.Exchange.{zero_from_product, one_from_product, same_from_product}
 use Rattle.lp_laws.proofs.Fraction.{Common, common, expanded}
-use Rattle.lp_laws.proofs.Bezout.{one_from_primitive}
-use Rattle.lp_laws.specs.Vectors.{sum_to, dot}
 use Rattle.lp_laws.specs.Bases.{IsBasis, IsPrimitive}
 
 -- a row that kills all columns of some basis kills all
@@ -17,9 +17,9 @@ pub kills_all : (n m : ℕ) (columns rows : ℕ → ℕ → ℤ) (own : ℕ → 
 kills_all n m columns rows own basis u h x =
     let all : Common m own = common m own basis.above in
     let factors : ℕ → ℤ = λ j. all.parts j *ℤ dot n (rows j) x in
-    zero_from_product all.all (dot n u x) all.is.some
+    zero_from_product all.all (dot n u x) all.exact.positive
     (sym (dot-scale n all.all u x)
-    ∙ dot_same n u (λ c. all.all *ℤ x c) u (λ c. sum_to m (λ j. factors j *ℤ columns j c)) (λ c lt. refl) (λ c lt. expanded n m columns rows own all.all all.parts basis all.is x c lt)
+    ∙ dot_same n u (λ c. all.all *ℤ x c) u (λ c. sum_to m (λ j. factors j *ℤ columns j c)) (λ c lt. refl) (λ c lt. expanded n m columns rows own all.all all.parts basis all.exact x c lt)
     ∙ dot-combined n m u factors columns
     ∙ sum-zero m (λ j. factors j *ℤ dot n u (columns j)) (λ j lt. ap (λ (z : ℤ). factors j *ℤ z) (h j lt) ∙ times_zero (factors j)))
 

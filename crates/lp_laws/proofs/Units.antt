@@ -4,8 +4,8 @@ use Rattle.std.specs.Prelude.{ℤ, pos, ◌*ℤ◌, ◌≤ℤ◌, unsigned_abs}
 use Rattle.std.proofs.lemmas.Int.{ints, unsigned_abs-mul}
 use Rattle.std.proofs.Common.{inl, inr}
 use Rattle.std.proofs.lemmas.Bool.{cases_eq}
-use Rattle.lp_laws.proofs.Sums.{sum-one, dot-comm, dot_one}
-use Rattle.lp_laws.specs.Vectors.{dot}
+use Rattle.cal_math.specs.Vectors.{dot}
+use Rattle.cal_math.proofs.Vectors.{sum-one, dot-comm, dot_one}
 use Rattle.lp_laws.specs.Bases.{IsBasis, IsUnit, IsPrimitive, IsPlain}
 
 -- a product with a unit is the number at its component

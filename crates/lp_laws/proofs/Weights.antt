@@ -3,9 +3,10 @@ use Rattle.std.proofs.Common.{◌≡◌, ℕ, ◌<◌, refl, arith, sym, ◌∙�
 use Rattle.std.specs.Prelude.{ℤ, pos, ◌-ℤ◌, ◌*ℤ◌, ◌≤ℤ◌}
 use Rattle.std.proofs.lemmas.Int.{ints}
 use Rattle.cal_math.specs.Whole.{*ℤ-≤}
-use Rattle.lp_laws.proofs.Exchange.{one-le-*ℤ}
-use Rattle.lp_laws.proofs.Sums.{sum-zero, sum-le, dot_same, dot-sub, dot-scale, dot_basis, dot-combined}
-use Rattle.lp_laws.specs.Vectors.{sum_to, dot}
+use Rattle.cal_math.specs.Vectors.{sum_to, dot}
+use Rattle.cal_math.proofs.Products.{one-le-*ℤ}
+use Rattle.cal_math.proofs.Vectors.{sum-zero, sum-le, dot_same, dot-sub, dot-scale, dot-combined}
+use Rattle.lp_laws.proofs.Bases.{dot_basis}
 use Rattle.lp_laws.specs.Bases.{IsBasis}
 
 -- the weights of a basis, over parts, give the target

@@ -9,7 +9,8 @@ use Rattle.lp_laws.specs.Bases.{IsBasis, IsPrimitive, IsPlain, IsPriced, IsReduc
 abbrev pub RowNumbersAreBounded : Type 0
 RowNumbersAreBounded = (b w : ℕ) (columns rows : ℕ → ℕ → ℤ) (own : ℕ → ℤ) →
     IsBasis (suc b) (suc b) columns rows own → IsPlain (suc b) (suc b) w columns →
-    (j c : ℕ) → j < suc b → c < suc b → IsPrimitive (suc b) (rows j) → unsigned_abs (rows j c) ≤ w ^ b
+    (j c : ℕ) → j < suc b → c < suc b → IsPrimitive (suc b) (rows j) →
+    unsigned_abs (rows j c) ≤ w ^ b
 
 -- the product of a primitive row with the column of its place: at most w^C
 abbrev pub OwnProductsAreBounded : Type 0
@@ -25,14 +26,18 @@ PartsAreBounded = (n w : ℕ) (columns rows : ℕ → ℕ → ℤ) (own target :
 
 -- the least denominator of potentials: at most w^C
 abbrev pub DenominatorsAreBounded : Type 0
-DenominatorsAreBounded = (n w : ℕ) (columns rows : ℕ → ℕ → ℤ) (own costs numbers : ℕ → ℤ) (denominator : ℕ) →
+DenominatorsAreBounded = (n w : ℕ) (columns rows : ℕ → ℕ → ℤ) (own costs numbers : ℕ →
+    ℤ) (denominator : ℕ) →
     IsBasis n n columns rows own → IsPlain n n w columns →
-    IsPriced n n columns costs numbers denominator → IsReduced n numbers denominator → denominator ≤ w ^ n
+    IsPriced n n columns costs numbers denominator → IsReduced n numbers denominator →
+    denominator ≤ w ^ n
 
 -- a potential over that denominator, with costs of magnitudes at most s and C at most 8: at most 3*C*s*w^(C-1)
 abbrev pub PotentialsAreBounded : Type 0
-PotentialsAreBounded = (b w s : ℕ) (columns rows : ℕ → ℕ → ℤ) (own costs numbers : ℕ → ℤ) (denominator : ℕ) → b < 8 →
+PotentialsAreBounded = (b w s : ℕ) (columns rows : ℕ → ℕ → ℤ) (own costs numbers : ℕ →
+    ℤ) (denominator : ℕ) → b < 8 →
     IsBasis (suc b) (suc b) columns rows own → IsPlain (suc b) (suc b) w columns →
-    IsPriced (suc b) (suc b) columns costs numbers denominator → IsReduced (suc b) numbers denominator →
+    IsPriced (suc b) (suc b) columns costs numbers denominator →
+    IsReduced (suc b) numbers denominator →
     ((j : ℕ) → j < suc b → unsigned_abs (costs j) ≤ s) →
     (k : ℕ) → k < suc b → unsigned_abs (numbers k) ≤ 3 * suc b * s * w ^ b

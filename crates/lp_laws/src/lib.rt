@@ -4,6 +4,7 @@
 mod basis;
 mod bound;
 mod descent;
+mod weight;
 
 pub use basis::{exchange_keeps_basis, rows_are_unique};
 pub use bound::{
@@ -12,4 +13,7 @@ pub use bound::{
 };
 pub use descent::{
     costs_fall, lists_stay_above, proof_excludes_weights, some_place_is_left, weights_give_target,
+};
+pub use weight::{
+    dear_weights_have_a_price, idle_places_stay, one_row_is_left, weights_stay_above,
 };

@@ -6,12 +6,11 @@ use Rattle.std.proofs.lemmas.Nat.{mul-le}
 use Rattle.std.proofs.Math.Nat.{mul-le-mul_left, mul-div_cancel, one-le-pow, div-le_self}
 use Rattle.cal_math.specs.Whole.{*ℤ_left, *ℤ_assoc, *ℤ--ℤ, abs-*ℤ-le}
 use Rattle.lp_laws.proofs.Measure.{multiple_of, multiple_some, multiple_is, measure_of, measure_falls}
-use Rattle.lp_laws.proofs.Exchange.{one-le-*ℤ}
+use Rattle.cal_math.specs.Vectors.{at, sum_to, dot}
+use Rattle.cal_math.proofs.Products.{one-le-*ℤ}
+use Rattle.cal_math.proofs.Vectors.{dot_bounded}
 use Rattle.lp_laws.proofs.Lexicographic.{IsLexAbove-scale, IsLexAbove-divided}
-use Rattle.lp_laws.proofs.Own.{dot_bounded}
-use Rattle.lp_laws.specs.Vectors.{sum_to, dot}
 use Rattle.lp_laws.specs.Orders.{IsLexAbove}
-use Rattle.lp_basis.specs.Rows.{at}
 use Rattle.lp_stage.specs.Leaving.{amounts_at}
 use Rattle.lp_stage.specs.Running.{IsRunning, HasFallen}
 use Rattle.lp_basis.specs.declared.column.Column.{Column}
@@ -78,8 +77,8 @@ left_falls b w s v phase columns starts stage next run run' fallen =
     (λ k lt. cost_small b w s v phase columns starts next t' k run' (div-le_self all_parts D') lt)
     (subst (λ (n : ℕ). IsLexAbove n (λ k. pos t *ℤ X k -ℤ pos t' *ℤ Y k)) (sym run.count)
     (IsLexAbove-divided (suc (suc b)) (pos D *ℤ pos D') (λ k. pos all_parts *ℤ (pos D' *ℤ X k -ℤ pos D *ℤ Y k)) (λ k. pos t *ℤ X k -ℤ pos t' *ℤ Y k)
-    (one-le-*ℤ (pos D) (pos D') (omega (arith, ints, run.potentials.priced.some)) (omega (arith, ints, run'.potentials.priced.some)))
-    (λ k lt. same_scale all_parts D D' t t' (X k) (Y k) (part_is D run.potentials.priced.some (stage_small b w s v phase columns starts stage run).0) (part_is D' run'.potentials.priced.some (stage_small b w s v phase columns starts next run').0))
+    (one-le-*ℤ (pos D) (pos D') (omega (arith, ints, run.potentials.priced.positive)) (omega (arith, ints, run'.potentials.priced.positive)))
+    (λ k lt. same_scale all_parts D D' t t' (X k) (Y k) (part_is D run.potentials.priced.positive (stage_small b w s v phase columns starts stage run).0) (part_is D' run'.potentials.priced.positive (stage_small b w s v phase columns starts next run').0))
     (IsLexAbove-scale (suc (suc b)) (pos all_parts) (λ k. pos D' *ℤ X k -ℤ pos D *ℤ Y k) (λ k. pos all_parts *ℤ (pos D' *ℤ X k -ℤ pos D *ℤ Y k)) (omega (arith, ints, parts_some)) fallen (λ k lt. refl)))))
   where
     less : length starts - 1 ≡ suc b

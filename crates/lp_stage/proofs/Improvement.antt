@@ -5,17 +5,16 @@ use Rattle.std.proofs.lemmas.Int.{ints}
 use Rattle.std.proofs.lemmas.Bool.{cases_eq, cases_lt}
 use Rattle.std.proofs.lemmas.List.{get_or-set_same, get_or-set_other}
 use Rattle.std.proofs.Math.Nat.{pow-suc, mul-le-mul_right}
-use Rattle.lp_laws.proofs.Sums.{sum-le, sum-zero}
+use Rattle.cal_math.specs.Vectors.{at, sum_to, dot}
+use Rattle.cal_math.proofs.Vectors.{sum-le, sum-zero}
 use Rattle.lp_laws.proofs.Reduced.{reduced_denominator-le, reduced_potential-le}
 use Rattle.lp_laws.proofs.Falling.{some_place, lists_above}
 use Rattle.lp_laws.proofs.Steps.{costs_fall_at}
-use Rattle.lp_laws.specs.Vectors.{sum_to, dot}
 use Rattle.lp_laws.specs.Orders.{IsLexAbove}
-use Rattle.lp_basis.specs.Rows.{at}
 use Rattle.lp_basis.specs.Held.{numbers_at, own_at}
 use Rattle.lp_basis.specs.Potentials.{IsPotentials}
 use Rattle.lp_stage.specs.Pricing.{cost_in, IsCheap, IsDear, FitsPrice, IsEntering}
-use Rattle.lp_stage.specs.Leaving.{amounts_at, met_at, IsStart}
+use Rattle.lp_stage.specs.Leaving.{amounts_at, row_product, IsStart}
 use Rattle.lp_stage.specs.Stages.{column_at, cost_at, basis_columns, basis_costs, IsPlacedBasis, CanStep, IsStep}
 use Rattle.lp_stage.specs.Running.{IsRunning, IsBetter}
 use Rattle.lp_basis.specs.declared.column.Column.{Column}
@@ -50,14 +49,14 @@ fits_price b w s v phase columns starts stage run k d lt =
     let numbers : ℕ → ℤ = at stage.potentials.numbers.items in
     record {
       product = record {
-        same = run.potentials.same ∙ sym start.same;
+        sized = run.potentials.sized ∙ sym start.sized;
         row_small = λ c. elim (cases_lt c (suc b)) [
           | inl less ↦ reduced_potential-le b w s (basis_columns columns stage.places.items) rows (own_at stage.rows.items) (basis_costs phase columns stage.places.items) numbers stage.potentials.denominator run.during.few held.basis held.plain run.potentials.priced run.potentials.reduced
               (λ j less. run.during.small (get_or stage.places.items j None)) c less
-          | inr le ↦ rw (at_past stage.potentials.numbers.items c (omega (arith, run.potentials.same))) (omega arith)
+          | inr le ↦ rw (at_past stage.potentials.numbers.items c (omega (arith, run.potentials.sized))) (omega arith)
         ];
         least = start.least;
-        sum = rw run.potentials.same start.sum;
+        sum = rw run.potentials.sized start.sum;
         room = price_room b w s run.during.few run.during.room;
       };
       denominator_small = omega (arith, reduced_denominator-le (suc b) w (basis_columns columns stage.places.items) rows (own_at stage.rows.items) (basis_costs phase columns stage.places.items) numbers stage.potentials.denominator held.basis held.plain run.potentials.priced run.potentials.reduced, held.room);
@@ -75,12 +74,12 @@ can_step b w s v phase columns starts stage k run lt = record {
 
 -- a column always meets some row above 0
 pub some_row : (b w s v : ℕ) (phase : Phase) (columns starts : List Column) (stage : Stage) (k : ℕ) (d : Column) → IsRunning b w s v phase columns starts stage → k < length columns →
-    ((j : ℕ) → j < suc b → met_at (suc b) stage.rows.items (amounts_at columns k) j ≤ℤ pos 0) → ⊥
+    ((j : ℕ) → j < suc b → row_product (suc b) stage.rows.items (amounts_at columns k) j ≤ℤ pos 0) → ⊥
 some_row b w s v phase columns starts stage k d run lt low =
     let amounts : ℕ → ℤ = at (amounts_at columns k) in
     let most : sum_to (suc b) amounts ≤ℤ sum_to (suc b) (λ c. pos 0) = sum-le (suc b) amounts (λ c. pos 0)
     (λ c less. some_place (suc b) (suc b) (basis_columns columns stage.places.items) (λ j. at (numbers_at stage.rows.items j)) (own_at stage.rows.items) run.basis.held.basis (λ j c p q. run.basis.held.plain.least j c p q) amounts low c less) in
-    let some : pos 1 ≤ℤ sum_to (suc b) amounts = subst (λ (xs : List ℤ). pos 1 ≤ℤ sum_to (suc b) (at xs)) (sym (amounts_get columns k d lt)) (run.fine k d lt).some in
+    let some : pos 1 ≤ℤ sum_to (suc b) amounts = subst (λ (xs : List ℤ). pos 1 ≤ℤ sum_to (suc b) (at xs)) (sym (amounts_get columns k d lt)) (run.fine k d lt).positive in
     omega (arith, ints, most, some, sum-zero (suc b) (λ c. pos 0) (λ c less. refl))
 
 -- the better stage
@@ -150,7 +149,7 @@ running_next b w s v phase columns starts stage next k d run lt cheap step = rec
 
     above' : (j : ℕ) → j < suc b → IsLexAbove (suc (suc b)) (λ k. dot (suc b) (rows' j) (S k))
     above' = lists_above (suc b) (suc b) i cols (λ j. at (numbers_at stage.rows.items j)) (own_at stage.rows.items) cols' rows' (own_at next.rows.items) (at (amounts_at columns k)) run.basis.held.basis basis'.held.basis step.leaving.within
-        (λ c less. enters c) (λ j less ne c q. stays j ne c) step.leaving.some (suc (suc b)) S run.above step.leaving.first
+        (λ c less. enters c) (λ j less ne c q. stays j ne c) step.leaving.positive (suc (suc b)) S run.above step.leaving.first
 
     cheap' : (pos stage.potentials.denominator *ℤ basis_costs phase columns next.places.items i) <ℤ dot (suc b) (at stage.potentials.numbers.items) (cols' i)
     cheap' =
@@ -161,7 +160,7 @@ running_next b w s v phase columns starts stage next k d run lt cheap step = rec
 
 -- whatever the step found
 pub step_gives : (b w s v : ℕ) (phase : Phase) (columns starts : List Column) (stage : Stage) (k : ℕ) (found : Option Stage) → IsRunning b w s v phase columns starts stage → IsEntering (suc b) phase (at stage.potentials.numbers.items) stage.potentials.denominator columns k →
-    MatchOption found ((j : ℕ) → j < suc b → met_at (suc b) stage.rows.items (amounts_at columns k) j ≤ℤ pos 0) (IsStep b w phase columns starts stage.places.items stage.rows.items k) →
+    MatchOption found ((j : ℕ) → j < suc b → row_product (suc b) stage.rows.items (amounts_at columns k) j ≤ℤ pos 0) (IsStep b w phase columns starts stage.places.items stage.rows.items k) →
     MatchOption found (All (IsDear (suc b) phase (at stage.potentials.numbers.items) stage.potentials.denominator) columns) (IsBetter b w s v phase columns starts stage)
 step_gives b w s v phase [] starts stage k found run enters is = absurd (omega (arith, enters.within))
 step_gives b w s v phase (x ∷ columns) starts stage k None run enters is = absurd (some_row b w s v phase (x ∷ columns) starts stage k x run enters.within is)

@@ -3,7 +3,7 @@ use Rattle.std.proofs.Common.{◌≡◌, ℕ, zero, suc, ◌<◌, List, [], ◌�
 use Rattle.std.specs.Prelude.{ℤ, pos, ◌*ℤ◌, Option, Some, None}
 use Rattle.std.proofs.lemmas.Bool.{cases_eq, cases_lt}
 use Rattle.std.proofs.lemmas.List.{get_or-set_same, get_or-set_other, length-set}
-use Rattle.lp_basis.specs.Rows.{at}
+use Rattle.cal_math.specs.Vectors.{at}
 use Rattle.lp_basis.specs.Held.{IsHeld, CanEnter, IsPut}
 use Rattle.lp_basis.specs.Potentials.{CanPrice, IsPotentials}
 use Rattle.lp_stage.specs.Pricing.{cost_in}
@@ -24,7 +24,7 @@ pub can_enter : (b w s : ℕ) (phase : Phase) (columns : List Column) (places : 
     CanEnter (suc b) w (basis_columns columns places) rows i (amounts_at columns k)
 can_enter b w s phase columns places rows i k can =
     let start = can.during.fine k can.known in
-    record { held = can.basis.held; within = can.place; same = start.same; least = start.least; sum = start.sum; met = can.met }
+    record { held = can.basis.held; within = can.place; sized = start.sized; least = start.least; sum = start.sum; met = can.met }
 
 pub put_place : (b w s : ℕ) (phase : Phase) (columns : List Column) (places : List (Option ℕ)) (rows : List Row) (i k : ℕ) → CanMove b w s phase columns places rows i k →
     IsPut (suc b) i (basis_columns columns places) (amounts_at columns k) (basis_columns columns (set places i (Some k)))
@@ -49,7 +49,7 @@ pub can_price : (b w s : ℕ) (phase : Phase) (columns : List Column) (places : 
 can_price b w s phase columns places rows costs during basis same are = record {
   held = basis.held;
   few = during.few;
-  same = same ∙ basis.count;
+  sized = same ∙ basis.count;
   small = λ j. elim (cases_lt j (length places)) [
     | inl lt ↦ rw (are j lt) (during.small (get_or places j None))
     | inr le ↦ rw (at_past costs j (omega (arith, same))) (omega arith)
@@ -60,7 +60,7 @@ can_price b w s phase columns places rows costs during basis same are = record {
 
 pub potentials_costs : (n : ℕ) (columns : ℕ → ℕ → ℤ) (f g : ℕ → ℤ) (potentials : Potentials) → ((j : ℕ) → j < n → f j ≡ g j) → IsPotentials n columns f potentials → IsPotentials n columns g potentials
 potentials_costs n columns f g potentials same is = record {
-  same = is.same;
-  priced = record { some = is.priced.some; meets = λ j lt. is.priced.meets j lt ∙ ap (λ (z : ℤ). pos potentials.denominator *ℤ z) (same j lt) };
+  sized = is.sized;
+  priced = record { positive = is.priced.positive; meets = λ j lt. is.priced.meets j lt ∙ ap (λ (z : ℤ). pos potentials.denominator *ℤ z) (same j lt) };
   reduced = is.reduced;
 }

@@ -1,8 +1,8 @@
 -- The two phases of a plan, and the columns that cost less than their potentials ask.
 use Rattle.std.specs.Prelude.{ℕ, ◌<◌, ◌≤◌, ◌^◌, List, length, get_or}
 use Rattle.std.specs.Prelude.{ℤ, pos, ◌*ℤ◌, ◌≤ℤ◌, ◌<ℤ◌, unsigned_abs}
-use Rattle.lp_laws.specs.Vectors.{dot}
-use Rattle.lp_basis.specs.Rows.{at, FitsProduct}
+use Rattle.cal_math.specs.Vectors.{at, dot}
+use Rattle.lp_basis.specs.Rows.{FitsProduct}
 use Rattle.lp_basis.specs.declared.column.Column.{Column}
 use Rattle.lp_stage.specs.declared.phase.Phase.{Phase}
 use Rattle.lp_stage.specs.declared.phase.Phase.TheVariants.{First, Second}
@@ -27,6 +27,7 @@ pub record FitsPrice (m w : ℕ) (numbers : List ℤ) (denominator : ℕ) (colum
   pub cost_small : unsigned_abs column.cost ≤ 2 ^ 55
 
 -- the place of a column that costs less than the potentials ask for it
-pub record IsEntering (n : ℕ) (phase : Phase) (numbers : ℕ → ℤ) (denominator : ℕ) (columns : List Column) (k : ℕ) : Type 0 where
+pub record IsEntering (n : ℕ) (phase : Phase) (numbers : ℕ → ℤ) (denominator : ℕ)
+    (columns : List Column) (k : ℕ) : Type 0 where
   pub within : k < length columns
   pub cheap : (d : Column) → IsCheap n phase numbers denominator (get_or columns k d)

@@ -1,22 +1,22 @@
 -- A phase as it runs: its stage, the starts, and that every row's list is above 0.
 use Rattle.std.specs.Prelude.{◌≡◌, ℕ, suc, ◌*◌, ◌<◌, ◌^◌, List, length, get_or, All, Option, None, MatchOption}
 use Rattle.std.specs.Prelude.{ℤ, pos, ◌-ℤ◌, ◌*ℤ◌}
-use Rattle.lp_laws.specs.Vectors.{dot}
+use Rattle.cal_math.specs.Vectors.{at, dot}
 use Rattle.lp_laws.specs.Bases.{IsBasis}
 use Rattle.lp_laws.specs.Orders.{IsLexAbove}
-use Rattle.lp_basis.specs.Rows.{at}
 use Rattle.lp_basis.specs.Held.{numbers_at}
 use Rattle.lp_basis.specs.Columns.{IsColumn}
 use Rattle.lp_basis.specs.Potentials.{IsPotentials}
 use Rattle.lp_stage.specs.Pricing.{IsDear}
-use Rattle.lp_stage.specs.Leaving.{amounts_at, listed, IsStart}
+use Rattle.lp_stage.specs.Leaving.{amounts_at, start_product, IsStart}
 use Rattle.lp_stage.specs.Stages.{basis_columns, basis_costs, IsPhase, IsPlacedBasis}
 use Rattle.lp_basis.specs.declared.column.Column.{Column}
 use Rattle.lp_stage.specs.declared.phase.Phase.{Phase}
 use Rattle.lp_stage.specs.declared.stage.Stage.{Stage}
 
 -- known columns, a stage of the phase, and the starts: the target, then the columns of a basis
-pub record IsRunning (b w s v : ℕ) (phase : Phase) (columns starts : List Column) (stage : Stage) : Type 0 where
+pub record IsRunning (b w s v : ℕ) (phase : Phase) (columns starts : List Column)
+    (stage : Stage) : Type 0 where
   pub during : IsPhase b w s phase columns
   pub fine : All (IsColumn (suc b)) columns
   pub basis : IsPlacedBasis b w columns stage.places.items stage.rows.items
@@ -28,7 +28,8 @@ pub record IsRunning (b w s v : ℕ) (phase : Phase) (columns starts : List Colu
   pub rows0 : ℕ → ℕ → ℤ
   pub own0 : ℕ → ℤ
   pub begun : IsBasis (suc b) (suc b) (λ k. at (amounts_at starts (suc k))) rows0 own0
-  pub above : (j : ℕ) → j < suc b → IsLexAbove (suc (suc b)) (λ k. listed (suc b) starts (numbers_at stage.rows.items j) k)
+  pub above : (j : ℕ) → j < suc b →
+      IsLexAbove (suc (suc b)) (λ k. start_product (suc b) starts (numbers_at stage.rows.items j) k)
 
 -- the list of what the basis costs at each of the starts, over its denominator, has fallen
 abbrev pub HasFallen : ℕ → List Column → Stage → Stage → Type 0
@@ -39,10 +40,12 @@ HasFallen n starts old next =
 
 -- a place that had a known column has one still
 abbrev pub KeepsKnown : Stage → Stage → Type 0
-KeepsKnown old next = (j : ℕ) → get_or next.places.items j None ≡ None → get_or old.places.items j None ≡ None
+KeepsKnown old next = (j : ℕ) → get_or next.places.items j None ≡ None →
+    get_or old.places.items j None ≡ None
 
 -- a later stage of the same phase that costs less
-pub record IsBetter (b w s v : ℕ) (phase : Phase) (columns starts : List Column) (old next : Stage) : Type 0 where
+pub record IsBetter (b w s v : ℕ) (phase : Phase) (columns starts : List Column)
+    (old next : Stage) : Type 0 where
   pub running : IsRunning b w s v phase columns starts next
   pub fallen : HasFallen (suc b) starts old next
   pub keeps : KeepsKnown old next

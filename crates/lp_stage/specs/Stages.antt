@@ -2,11 +2,11 @@
 use Rattle.std.specs.Prelude.{◌≡◌, ℕ, zero, suc, ◌*◌, ◌<◌, ◌≤◌, ◌^◌, ◌≢◌}
 use Rattle.std.specs.Prelude.{List, [], ◌∷◌, length, get_or, set, Option, Some, None, MatchOption}
 use Rattle.std.specs.Prelude.{ℤ, pos, ◌≤ℤ◌, unsigned_abs}
-use Rattle.lp_basis.specs.Rows.{at}
+use Rattle.cal_math.specs.Vectors.{at}
 use Rattle.lp_basis.specs.Held.{IsHeld}
 use Rattle.lp_basis.specs.Potentials.{IsPotentials}
 use Rattle.lp_stage.specs.Pricing.{cost_in}
-use Rattle.lp_stage.specs.Leaving.{amounts_at, IsStart, met_at, CanLeave, IsLeaving}
+use Rattle.lp_stage.specs.Leaving.{amounts_at, IsStart, row_product, CanLeave, IsLeaving}
 use Rattle.lp_basis.specs.declared.row.Row.{Row}
 use Rattle.lp_basis.specs.declared.column.Column.{Column}
 use Rattle.lp_stage.specs.declared.phase.Phase.{Phase}
@@ -65,29 +65,33 @@ pub record IsPhase (b w s : ℕ) (phase : Phase) (columns : List Column) : Type 
   pub room : w ^ suc b * s ≤ 2 ^ 94
 
 -- the rows of the basis at these places
-pub record IsPlacedBasis (b w : ℕ) (columns : List Column) (places : List (Option ℕ)) (rows : List Row) : Type 0 where
+pub record IsPlacedBasis (b w : ℕ) (columns : List Column) (places : List (Option ℕ))
+    (rows : List Row) : Type 0 where
   pub count : length places ≡ suc b
   pub known : AreKnown (length columns) places
   pub held : IsHeld (suc b) w (basis_columns columns places) rows
 
 -- the rows and the potentials of the basis at these places
-pub record IsStage (b w : ℕ) (phase : Phase) (columns : List Column) (places : List (Option ℕ)) (stage : Stage) : Type 0 where
+pub record IsStage (b w : ℕ) (phase : Phase) (columns : List Column) (places : List (Option ℕ))
+    (stage : Stage) : Type 0 where
   pub places_are : stage.places.items ≡ places
   pub basis : IsPlacedBasis b w columns places stage.rows.items
   pub potentials : IsPotentials (suc b) (basis_columns columns places) (basis_costs phase columns places) stage.potentials
 
 -- a stage of the phase can stand at these places
-pub record CanStand (b w s : ℕ) (phase : Phase) (columns : List Column) (places : List (Option ℕ)) (rows : List Row) : Type 0 where
+pub record CanStand (b w s : ℕ) (phase : Phase) (columns : List Column) (places : List (Option ℕ))
+    (rows : List Row) : Type 0 where
   pub during : IsPhase b w s phase columns
   pub basis : IsPlacedBasis b w columns places rows
 
 -- the known column k can come in at place i
-pub record CanMove (b w s : ℕ) (phase : Phase) (columns : List Column) (places : List (Option ℕ)) (rows : List Row) (i k : ℕ) : Type 0 where
+pub record CanMove (b w s : ℕ) (phase : Phase) (columns : List Column) (places : List (Option ℕ))
+    (rows : List Row) (i k : ℕ) : Type 0 where
   pub during : IsPhase b w s phase columns
   pub basis : IsPlacedBasis b w columns places rows
   pub place : i < suc b
   pub known : k < length columns
-  pub met : met_at (suc b) rows (amounts_at columns k) i ≢ pos 0
+  pub met : row_product (suc b) rows (amounts_at columns k) i ≢ pos 0
 
 -- the known column k can enter in a phase that began with the starts: the target, then the columns of a basis
 pub record CanStep (b w s v : ℕ) (phase : Phase) (columns starts : List Column)
@@ -105,8 +109,10 @@ pub record IsStep (b w : ℕ) (phase : Phase) (columns starts : List Column)
   pub stage : IsStage b w phase columns (set places place (Some k)) next
 
 -- a step, or no row that meets the column above 0
-abbrev pub IsStepOf : Phase → List Column → List Column → List (Option ℕ) → List Row → ℕ → Option Stage → Type 0
+abbrev pub IsStepOf : Phase → List Column → List Column → List (Option ℕ) → List Row → ℕ →
+    Option Stage → Type 0
 IsStepOf phase columns starts places rows k found =
     (b w s v : ℕ) → CanStep b w s v phase columns starts places rows k →
-    MatchOption found ((j : ℕ) → j < suc b → met_at (suc b) rows (amounts_at columns k) j ≤ℤ pos 0)
+    MatchOption found ((j : ℕ) → j < suc b →
+    row_product (suc b) rows (amounts_at columns k) j ≤ℤ pos 0)
     (IsStep b w phase columns starts places rows k)

@@ -1,10 +1,11 @@
 ghost use Rattle.std.specs.Prelude.{ℕ, length, MatchOption, All};
 ghost use Rattle.std.specs.Bool.{OnTrue, OnFalse};
-ghost use Rattle.lp_basis.specs.Rows.{at};
+ghost use Rattle.cal_math.specs.Vectors.{at};
 ghost use Rattle.lp_stage.specs.Pricing.{IsCheap, IsDear, FitsPrice, IsEntering};
 
 use crate::phase::{Phase, cost_of};
-use lp_basis::{Column, product, times};
+use cal_whole::times;
+use lp_basis::{Column, product};
 
 /// Whether the column costs less than the potentials ask for it.
 fn is_cheap(column: &Column, phase: Phase, numbers: &[i128], denominator: u128) -> bool

@@ -15,7 +15,8 @@ pub fn improved(
     phase: Phase,
     stage: &Stage,
 ) -> Result<Option<Stage>, AllocError>
-    requires { (b : ℕ) × (w : ℕ) × (s : ℕ) × (v : ℕ) × IsRunning b w s v phase columns.now starts.now stage.now }
+    requires { (b : ℕ) × (w : ℕ) × (s : ℕ) × (v : ℕ)
+        × IsRunning b w s v phase columns.now starts.now stage.now }
     ensures { IfOk result (λ found. IsImproved phase columns.now starts.now stage.now found) }
 {
     let denominator = stage.potentials.denominator;
@@ -37,7 +38,8 @@ pub fn settled(
     phase: Phase,
     stage: Stage,
 ) -> Result<Stage, AllocError>
-    requires { (b : ℕ) × (w : ℕ) × (s : ℕ) × (v : ℕ) × IsRunning b w s v phase columns.now starts.now stage }
+    requires { (b : ℕ) × (w : ℕ) × (s : ℕ) × (v : ℕ)
+        × IsRunning b w s v phase columns.now starts.now stage }
     ensures { IfOk result (λ end. IsSettled phase columns.now starts.now stage end) }
 {
     let mut stage = stage;

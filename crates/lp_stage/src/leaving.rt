@@ -1,11 +1,13 @@
 ghost use Rattle.std.specs.Prelude.{◌≡◌, ℕ, suc, ◌+◌, ◌<◌, ◌≤◌, length, ℤ, pos, ◌*ℤ◌, ◌-ℤ◌, ◌≤ℤ◌, ◌⊎◌, IfOk, MatchOption};
 ghost use Rattle.std.specs.Bool.{OnTrue, OnFalse};
 ghost use Rattle.lp_laws.specs.Orders.{IsLexAbove};
-ghost use Rattle.lp_basis.specs.Rows.{at, FitsProduct};
+ghost use Rattle.cal_math.specs.Vectors.{at};
+ghost use Rattle.lp_basis.specs.Rows.{FitsProduct};
 ghost use Rattle.lp_basis.specs.Held.{numbers_at};
-ghost use Rattle.lp_stage.specs.Leaving.{amounts_at, listed, IsChosen, MayEnter, IsBestOf, IsLeavingOf};
+ghost use Rattle.lp_stage.specs.Leaving.{amounts_at, start_product, IsChosen, MayEnter, IsBestOf, IsLeavingOf};
 
-use lp_basis::{Column, Row, compare_signed, product};
+use cal_whole::compare_signed_ratios;
+use lp_basis::{Column, Row, product};
 use std::alloc::{AllocError, Global};
 use std::cmp::Ordering;
 
@@ -19,7 +21,7 @@ struct Candidate {
 
 /// Whether the first list over `a` comes before the second over `b`: by the first place at which the ratios differ.
 fn is_before(first: &[i128], a: i128, second: &[i128], b: i128) -> bool
-    requires same { length first.now ≡ length second.now }
+    requires sized { length first.now ≡ length second.now }
     requires a_some { pos 1 ≤ℤ a }
     requires b_some { pos 1 ≤ℤ b }
     ensures yes { OnTrue result (IsLexAbove (length first.now) (λ k. a *ℤ at second.now k -ℤ b *ℤ at first.now k)) }
@@ -28,7 +30,7 @@ fn is_before(first: &[i128], a: i128, second: &[i128], b: i128) -> bool
         ⊎ ((k : ℕ) → k < length first.now → a *ℤ at second.now k ≡ b *ℤ at first.now k)) }
 {
     'places: for k in 0..first.len() {
-        match compare_signed(first[k], a, second[k], b) {
+        match compare_signed_ratios(first[k], a, second[k], b) {
             Ordering::Less => return true,
             Ordering::Greater => return false,
             Ordering::Equal => {}
@@ -39,9 +41,11 @@ fn is_before(first: &[i128], a: i128, second: &[i128], b: i128) -> bool
 
 /// The products of a row with the starts.
 fn list_of(alloc: Global, row: &[i128], starts: &[Column]) -> Result<Vec<i128>, AllocError>
-    requires { (m : ℕ) × (v : ℕ) × ((k : ℕ) → k < length starts.now → FitsProduct m v row.now (amounts_at starts.now k)) }
-    ensures same { IfOk result (λ list. length list.items ≡ length starts.now) }
-    ensures are { IfOk result (λ list. (k : ℕ) → k < length starts.now → at list.items k ≡ listed (length row.now) starts.now row.now k) }
+    requires { (m : ℕ) × (v : ℕ)
+        × ((k : ℕ) → k < length starts.now → FitsProduct m v row.now (amounts_at starts.now k)) }
+    ensures sized { IfOk result (λ list. length list.items ≡ length starts.now) }
+    ensures every { IfOk result (λ list. (k : ℕ) → k < length starts.now →
+        at list.items k ≡ start_product (length row.now) starts.now row.now k) }
 {
     let mut list = Vec::new(alloc);
     'starts: for k in 0..starts.len() {
@@ -54,7 +58,7 @@ fn list_of(alloc: Global, row: &[i128], starts: &[Column]) -> Result<Vec<i128>, 
 
 /// The candidate whose list comes first.
 fn chosen(old: Candidate, next: Candidate) -> Candidate
-    requires same { length next.list.items ≡ length old.list.items }
+    requires sized { length next.list.items ≡ length old.list.items }
     requires old_some { pos 1 ≤ℤ old.met }
     requires next_some { pos 1 ≤ℤ next.met }
     ensures { IsChosen old next result }

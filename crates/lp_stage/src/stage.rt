@@ -1,5 +1,5 @@
 ghost use Rattle.std.specs.Prelude.{◌≡◌, ℕ, ◌<◌, length, get_or, set, Some, None, IfOk};
-ghost use Rattle.lp_basis.specs.Rows.{at};
+ghost use Rattle.cal_math.specs.Vectors.{at};
 ghost use Rattle.lp_stage.specs.Stages.{unit_cost_in, cost_at, IsKnown, AreKnown, basis_costs};
 ghost use Rattle.lp_stage.specs.Stages.{IsStage, CanStand, CanMove, CanStep, IsStepOf};
 
@@ -45,8 +45,8 @@ fn costs_of(
     places: &[Option<usize>],
 ) -> Result<Vec<i128>, AllocError>
     requires { AreKnown (length columns.now) places.now }
-    ensures same { IfOk result (λ costs. length costs.items ≡ length places.now) }
-    ensures are { IfOk result (λ costs. (j : ℕ) → j < length places.now →
+    ensures sized { IfOk result (λ costs. length costs.items ≡ length places.now) }
+    ensures every { IfOk result (λ costs. (j : ℕ) → j < length places.now →
         at costs.items j ≡ basis_costs phase columns.now places.now j) }
 {
     let mut costs = Vec::new(alloc);
@@ -80,7 +80,8 @@ pub fn priced(
     places: Vec<Option<usize>>,
     rows: Vec<Row>,
 ) -> Result<Stage, AllocError>
-    requires { (b : ℕ) × (w : ℕ) × (s : ℕ) × CanStand b w s phase columns.now places.items rows.items }
+    requires { (b : ℕ) × (w : ℕ) × (s : ℕ)
+        × CanStand b w s phase columns.now places.items rows.items }
     ensures rows { IfOk result (λ stage. stage.rows.items ≡ rows.items) }
     ensures stage { IfOk result (λ stage. (b w s : ℕ) →
         CanStand b w s phase columns.now places.items rows.items →
@@ -105,7 +106,8 @@ pub fn exchanged(
     i: usize,
     k: usize,
 ) -> Result<Stage, AllocError>
-    requires { (b : ℕ) × (w : ℕ) × (s : ℕ) × CanMove b w s phase columns.now places.now rows.now i k }
+    requires { (b : ℕ) × (w : ℕ) × (s : ℕ)
+        × CanMove b w s phase columns.now places.now rows.now i k }
     ensures { IfOk result (λ next. (b w s : ℕ) →
         CanMove b w s phase columns.now places.now rows.now i k →
         IsStage b w phase columns.now (set places.now i (Some k)) next) }
@@ -127,7 +129,8 @@ pub fn stepped(
     rows: &[Row],
     k: usize,
 ) -> Result<Option<Stage>, AllocError>
-    requires { (b : ℕ) × (w : ℕ) × (s : ℕ) × (v : ℕ) × CanStep b w s v phase columns.now starts.now places.now rows.now k }
+    requires { (b : ℕ) × (w : ℕ) × (s : ℕ) × (v : ℕ)
+        × CanStep b w s v phase columns.now starts.now places.now rows.now k }
     ensures { IfOk result (λ found. IsStepOf phase columns.now starts.now places.now rows.now k found) }
 {
     let column = &columns[k];

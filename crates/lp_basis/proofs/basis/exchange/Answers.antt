@@ -4,10 +4,9 @@ use Rattle.std.proofs.lemmas.Int.{to_z-of_z}
 use Rattle.lp_basis.proofs.Held.{fits_product}
 use Rattle.lp_basis.proofs.Lists.{each_of}
 use Rattle.lp_basis.proofs.Placed.{CanPlace-from, turn_mixed, met_small, read_back, IsHeld-placed}
-use Rattle.lp_basis.specs.Rows.{at}
+use Rattle.cal_math.specs.Vectors.{at, dot}
 use Rattle.lp_basis.specs.Held.{numbers_at}
 use Rattle.lp_basis.specs.Steps.{IsPlaced}
-use Rattle.lp_laws.specs.Vectors.{dot}
 use Rattle.lp_basis.proofs.basis.exchange.Goals as goal
 
 pub product-met-requires : goal.product-met-requires
@@ -56,8 +55,8 @@ placed-requires-clause-can c =
     let size = simp to_z-of_z at c.turn_of-turn.ensures.size in
     let p_is = simp to_z-of_z at c.times-p.ensures in
     let long = can.held.lengths c.args.i can.within in
-    let same = c.in_ok-mine.ensures.same ∙ ap length row_is2 ∙ long in
-    let is = rw (row_is2, row_is3, long) at (simp to_z-of_z at c.in_ok-mine.ensures.is) in
+    let same = c.in_ok-mine.ensures.sized ∙ ap length row_is2 ∙ long in
+    let is = rw (row_is2, row_is3, long) at (simp to_z-of_z at c.in_ok-mine.ensures.exact) in
     let place = CanPlace-from c.requires.0 c.requires.1 c.requires.2 c.args.rows.now c.args.i c.args.column.now can c.turn_of-turn.result c.product-met.result c.times-p.result c.in_ok-mine.mine.items
     c.turn_of-turn.ensures.one size met_is p_is same is in
     (c.requires.0, c.requires.1, c.requires.2, simp (to_z-of_z, c.deref-in-exchange.ensures.value) place)
@@ -68,9 +67,9 @@ exchange-preserved c =
     let was = simp to_z-of_z at c.exchange.invariant.placed in
     let here = simp (to_z-of_z, c.deref-in-exchange.ensures.value) at c.in_ok-one.ensures in
     record {
-      same = search rules;
+      sized = search rules;
       placed = simp to_z-of_z (each_of (λ k r. IsPlaced c.args.i k (length c.args.column.now) c.times-p.result c.in_ok-mine.mine.items c.args.column.now c.args.rows.now r)
-          c.exchange.next.items c.push.new.self.items c.in_ok-one.one c.exchange.j c.exchange.invariant.same c.in_ok-push.ensures.items was here);
+          c.exchange.next.items c.push.new.self.items c.in_ok-one.one c.exchange.j c.exchange.invariant.sized c.in_ok-push.ensures.items was here);
     }
 
 pub returns : goal.returns
@@ -88,10 +87,10 @@ returns c b w columns columns' can is_put =
     let fits_p : SFits w128 c.times-p.result = search rules in
     let size = simp to_z-of_z at c.turn_of-turn.ensures.size in
     let p_is = simp to_z-of_z at c.times-p.ensures in
-    let same = c.in_ok-mine.ensures.same ∙ ap length row_is2 ∙ long in
-    let is = rw (row_is2, row_is3, long) at (simp to_z-of_z at c.in_ok-mine.ensures.is) in
+    let same = c.in_ok-mine.ensures.sized ∙ ap length row_is2 ∙ long in
+    let is = rw (row_is2, row_is3, long) at (simp to_z-of_z at c.in_ok-mine.ensures.exact) in
     let place = CanPlace-from b w columns c.args.rows.now c.args.i c.args.column.now can c.turn_of-turn.result c.product-met.result c.times-p.result c.in_ok-mine.mine.items
     c.turn_of-turn.ensures.one size met_is p_is same is in
     let all = simp to_z-of_z at c.exchange.invariant.placed in
     let ended : c.exchange.j ≡ suc b = omega (arith, c.exchange-test.false, c.exchange.auto.j-end, can.held.count) in
-    IsHeld-placed b w columns columns' c.args.rows.now c.args.i c.args.column.now c.times-p.result c.in_ok-mine.mine.items c.exchange.next.items c.index-rows-i.result place is_put (c.exchange.invariant.same ∙ ended) (λ k d less. all k d (omega (arith, ended)))
+    IsHeld-placed b w columns columns' c.args.rows.now c.args.i c.args.column.now c.times-p.result c.in_ok-mine.mine.items c.exchange.next.items c.index-rows-i.result place is_put (c.exchange.invariant.sized ∙ ended) (λ k d less. all k d (omega (arith, ended)))

@@ -6,6 +6,6 @@ use Rattle.lp_basis.proofs.basis.exchange.Given as goal
 
 abbrev pub invariant-exchange : goal.invariant-exchange
 invariant-exchange l = record {
-  same : length l.next.items ≡ l.j;
+  sized : length l.next.items ≡ l.j;
   placed : (k : ℕ) (d : Row) → k < l.j → IsPlaced l.i k (length l.column) l.p l.mine.items l.column l.rows (get_or l.next.items k d);
 }

@@ -3,9 +3,8 @@ use Rattle.std.specs.Int.{w128}
 use Rattle.std.proofs.lemmas.Int.{to_z-of_z}
 use Rattle.lp_basis.proofs.Held.{fits_product}
 use Rattle.lp_basis.proofs.Placed.{row_read, place_mixed, place_copy, place_own, place_keeps, IsPlaced-there}
-use Rattle.lp_basis.specs.Rows.{at}
+use Rattle.cal_math.specs.Vectors.{at, dot}
 use Rattle.lp_basis.specs.Held.{numbers_at}
-use Rattle.lp_laws.specs.Vectors.{dot}
 use Rattle.lp_basis.proofs.basis.placed.Goals as goal
 
 pub mixed-requires-clause-fits : goal.mixed-requires-clause-fits
@@ -20,12 +19,12 @@ product-q-requires c =
     let fits = fits_product c.requires.can.0 c.requires.can.1 c.requires.can.2 c.args.rows.now c.args.i c.args.column.now can.can c.args.j within in
     (_, _, rw row_is at fits)
 
-pub next_row-requires-clause-same : goal.next_row-requires-clause-same
-next_row-requires-clause-same c =
+pub next_row-requires-clause-sized : goal.next_row-requires-clause-sized
+next_row-requires-clause-sized c =
     let can = c.requires.can.3 in
     let read = row_read c.args.rows.now c.args.j c.index-rows-j.result c.requires.within c.index-rows-j.is in
     let within : c.args.j < suc c.requires.can.0 = omega (arith, c.requires.within, can.can.held.count) in
-    ap length (c.deref-else-j-i.ensures.value ∙ sym read.0) ∙ can.can.held.lengths c.args.j within ∙ sym can.same
+    ap length (c.deref-else-j-i.ensures.value ∙ sym read.0) ∙ can.can.held.lengths c.args.j within ∙ sym can.sized
 
 pub next_row-requires-clause-fits : goal.next_row-requires-clause-fits
 next_row-requires-clause-fits c =
@@ -74,8 +73,8 @@ returns-in_ok-next c =
     let fits_p = c.ranges.p in
     let fits_q : SFits w128 c.product-q.result = search rules in
     let fits_own : SFits w128 c.index-rows-j.result.own = search rules in
-    let first = simp to_z-of_z at c.in_ok-next.ensures.is in
+    let first = simp to_z-of_z at c.in_ok-next.ensures.exact in
     let is = rw (row_is2, q_is, ← read.1) at first in
     let same = ap length row_is2 ∙ can.can.held.lengths c.args.j within in
     IsPlaced-there c.requires.can.0 c.requires.can.1 c.requires.can.2 c.args.rows.now c.args.i c.args.p c.args.mine.now c.args.column.now can c.args.j within c.if-j-i.false c.in_ok-next.next
-    (c.in_ok-next.ensures.same ∙ same) is
+    (c.in_ok-next.ensures.sized ∙ same) is

@@ -15,7 +15,7 @@ numbers-preserved c =
     let is = simp to_z-of_z at c.number_of-number.ensures in
     let items = simp to_z-of_z at c.in_ok-push.ensures.items in
     record {
-      same = search rules;
-      are = λ b d lt. each_pushed (λ k v. (d : Part) → v ≡ number_at (get_or c.args.parts.now k d) c.args.denominator c.args.divisor) c.numbers.numbers.items c.push.new.self.items c.number_of-number.result c.numbers.c c.numbers.invariant.same items
-          (λ k less e. c.numbers.invariant.are k e less) (λ e. is ∙ ap (λ (part : Part). number_at part c.args.denominator c.args.divisor) (get_or_default c.args.parts.now c.numbers.c (record { whole = pos 0; rest = 0 }) e c.numbers-test.true)) b lt d;
+      sized = search rules;
+      every = λ b d lt. each_pushed (λ k v. (d : Part) → v ≡ number_at (get_or c.args.parts.now k d) c.args.denominator c.args.divisor) c.numbers.numbers.items c.push.new.self.items c.number_of-number.result c.numbers.c c.numbers.invariant.sized items
+          (λ k less e. c.numbers.invariant.every k e less) (λ e. is ∙ ap (λ (part : Part). number_at part c.args.denominator c.args.divisor) (get_or_default c.args.parts.now c.numbers.c (record { whole = pos 0; rest = 0 }) e c.numbers-test.true)) b lt d;
     }

@@ -9,17 +9,17 @@ pub returns : goal.returns
 returns c =
     let fits_number = c.ranges.number in
     let fits_summand = c.ranges.summand in
-    let fits_whole : SFits w128 c.floor_of-whole.result = search rules in
-    let fits_also : SFits w128 c.floor_of-also.result = search rules in
+    let fits_whole : SFits w128 c.floor_quotient-whole.result = search rules in
+    let fits_also : SFits w128 c.floor_quotient-also.result = search rules in
     let fits_carried : SFits w128 c.carried.result = search rules in
     let large_is : to_z w128 c.args.large ≡ pos c.args.large = to_z_pos w128 c.args.large (omega (arith, c.requires.large_small)) in
     let own_is : to_z w128 c.args.own ≡ pos c.args.own = to_z_pos w128 c.args.own (omega (arith, c.requires.own_small)) in
     let F : ℤ = int_div_euclid c.args.number (pos c.args.large) in
     let G : ℤ = int_div_euclid c.args.summand (pos c.args.own) in
-    let f_is : c.floor_of-whole.result ≡ F = simp (to_z-of_z, large_is) at c.floor_of-whole.ensures in
-    let g_is : c.floor_of-also.result ≡ G = simp (to_z-of_z, own_is) at c.floor_of-also.ensures in
-    let r_is = simp (to_z-of_z, large_is) at c.rest_of-rest.ensures in
-    let l_is = simp (to_z-of_z, own_is) at c.rest_of-left.ensures in
-    let sum_is : c.carried.result ≡ (c.floor_of-whole.result +ℤ c.floor_of-also.result) +ℤ pos c.joined-carry.result.0 = simp to_z-of_z at c.carried.ensures in
+    let f_is : c.floor_quotient-whole.result ≡ F = simp (to_z-of_z, large_is) at c.floor_quotient-whole.ensures.exact in
+    let g_is : c.floor_quotient-also.result ≡ G = simp (to_z-of_z, own_is) at c.floor_quotient-also.ensures.exact in
+    let r_is = simp (to_z-of_z, large_is) at c.floor_rest-rest.ensures.exact in
+    let l_is = simp (to_z-of_z, own_is) at c.floor_rest-left.ensures.exact in
+    let sum_is : c.carried.result ≡ (c.floor_quotient-whole.result +ℤ c.floor_quotient-also.result) +ℤ pos c.joined-carry.result.0 = simp to_z-of_z at c.carried.ensures in
     let w_is : c.carried.result ≡ (F +ℤ G) +ℤ pos c.joined-carry.result.0 = omega (arith, ints, sum_is, f_is, g_is) in
-    simp to_z-of_z (IsPart-from c.args.number c.args.summand F G c.carried.result c.args.large c.args.own c.rest_of-rest.result c.rest_of-left.result c.joined-carry.result.0 c.joined-carry.result.1 r_is l_is c.joined-carry.ensures.sum w_is c.joined-carry.ensures.below)
+    simp to_z-of_z (IsPart-from c.args.number c.args.summand F G c.carried.result c.args.large c.args.own c.floor_rest-rest.result c.floor_rest-left.result c.joined-carry.result.0 c.joined-carry.result.1 r_is l_is c.joined-carry.ensures.sum w_is c.joined-carry.ensures.below)

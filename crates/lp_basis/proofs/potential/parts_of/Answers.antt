@@ -3,7 +3,7 @@ use Rattle.std.specs.Prelude.{ℤ, pos, ◌*ℤ◌, unsigned_abs}
 use Rattle.std.specs.Int.{w128}
 use Rattle.std.proofs.lemmas.Int.{to_z-of_z, fits_signed_from_abs}
 use Rattle.cal_math.specs.Whole.{abs-*ℤ-le}
-use Rattle.lp_basis.specs.Rows.{at}
+use Rattle.cal_math.specs.Vectors.{at}
 use Rattle.lp_basis.specs.Potentials.{FitsSum, IsPart}
 use Rattle.lp_basis.proofs.Lists.{each_of}
 use Rattle.lp_basis.proofs.potential.parts_of.Goals as goal
@@ -35,6 +35,6 @@ parts-preserved c =
     let part = simp to_z-of_z at c.part_of-part.ensures in
     let here = subst (λ (z : ℤ). IsPart (at c.args.numbers.now c.parts.c) c.args.large z c.args.own c.part_of-part.result) is part in
     record {
-      same = search rules;
-      are = simp to_z-of_z (each_of (λ k part. IsPart (at c.args.numbers.now k) c.args.large (c.args.cost *ℤ at c.args.row.now k) c.args.own part) c.parts.parts.items c.push.new.self.items c.part_of-part.result c.parts.c c.parts.invariant.same c.in_ok-push.ensures.items (simp to_z-of_z at c.parts.invariant.are) here);
+      sized = search rules;
+      every = simp to_z-of_z (each_of (λ k part. IsPart (at c.args.numbers.now k) c.args.large (c.args.cost *ℤ at c.args.row.now k) c.args.own part) c.parts.parts.items c.push.new.self.items c.part_of-part.result c.parts.c c.parts.invariant.sized c.in_ok-push.ensures.items (simp to_z-of_z at c.parts.invariant.every) here);
     }

@@ -4,6 +4,6 @@ use Rattle.lp_basis.proofs.potential.parts_of.Given as goal
 
 abbrev pub invariant-parts : goal.invariant-parts
 invariant-parts l = record {
-  same : length l.parts.items ≡ l.c;
-  are : AreParts l.c l.numbers l.large l.cost l.row l.own l.parts.items;
+  sized : length l.parts.items ≡ l.c;
+  every : AreParts l.c l.numbers l.large l.cost l.row l.own l.parts.items;
 }

@@ -2,7 +2,7 @@ use Rattle.std.proofs.Common.{◌≡◌, ℕ, suc, ◌+◌, ◌<◌, refl, arith
 use Rattle.std.specs.Prelude.{ℤ, pos, unsigned_abs, ◌≤ℤ◌}
 use Rattle.std.specs.Int.{w128}
 use Rattle.std.proofs.lemmas.Int.{ints, to_z-of_z}
-use Rattle.lp_basis.specs.Rows.{at}
+use Rattle.cal_math.specs.Vectors.{at}
 use Rattle.lp_basis.specs.Held.{own_at}
 use Rattle.lp_basis.specs.Potentials.{IsPotentials}
 use Rattle.lp_basis.proofs.Placed.{row_read}
@@ -14,7 +14,7 @@ own_read own size e h = omega (arith, ints, e, h)
 
 pub places-init : goal.places-init
 places-init c b w s columns can =
-    no_potentials (suc b) columns (at c.args.costs.now) _ (c.in_ok-zeros.ensures.same ∙ can.held.count) c.in_ok-zeros.ensures.are refl
+    no_potentials (suc b) columns (at c.args.costs.now) _ (c.in_ok-zeros.ensures.sized ∙ can.held.count) c.in_ok-zeros.ensures.every refl
 
 pub added-requires : goal.added-requires
 added-requires c =
@@ -38,7 +38,7 @@ places-preserved c b w s columns can =
     let size : c.unsigned_abs-own.result ≡ unsigned_abs c.index-rows-j.result.own = simp to_z-of_z at c.unsigned_abs-own.ensures.value in
     let above = can.held.basis.above c.places.j lt in
     let own_is : own_at c.args.rows.now c.places.j ≡ pos c.unsigned_abs-own.result = own_read (own_at c.args.rows.now c.places.j) c.unsigned_abs-own.result (size ∙ ap unsigned_abs (sym read.1)) above in
-    let same = rw c.deref.ensures.value at c.in_ok-sum.ensures.same in
+    let same = rw c.deref.ensures.value at c.in_ok-sum.ensures.sized in
     let first = simp to_z-of_z at c.in_ok-sum.ensures.summed in
     let summed = rw (c.deref.ensures.value, c.deref-in-places.ensures.value, ← read.0, ← own_is) at first in
     let one : c.places.j + 1 ≡ suc c.places.j = omega arith in

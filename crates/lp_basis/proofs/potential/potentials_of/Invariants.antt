@@ -1,6 +1,6 @@
 use Rattle.std.proofs.Common.{ℕ, suc}
 use Rattle.std.specs.Prelude.{ℤ}
-use Rattle.lp_basis.specs.Rows.{at}
+use Rattle.cal_math.specs.Vectors.{at}
 use Rattle.lp_basis.specs.Potentials.{CanPrice, IsPotentials}
 use Rattle.lp_basis.proofs.Pricing.{front}
 use Rattle.lp_basis.proofs.potential.potentials_of.Given as goal

@@ -1,6 +1,5 @@
 use Rattle.std.proofs.Common.{◌≡◌}
-use Rattle.lp_laws.specs.Vectors.{dot}
-use Rattle.lp_basis.specs.Rows.{at}
+use Rattle.cal_math.specs.Vectors.{at, dot}
 use Rattle.lp_basis.proofs.row.product.Given as goal
 
 abbrev pub invariant-sum : goal.invariant-sum

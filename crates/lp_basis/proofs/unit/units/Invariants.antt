@@ -5,6 +5,6 @@ use Rattle.lp_basis.proofs.unit.units.Given as goal
 
 abbrev pub invariant-units : goal.invariant-units
 invariant-units l = record {
-  same : length l.rows.items ≡ l.k;
-  is : (k : ℕ) (d : Row) → k < l.k → IsUnitRow l.size k (get_or l.rows.items k d);
+  sized : length l.rows.items ≡ l.k;
+  exact : (k : ℕ) (d : Row) → k < l.k → IsUnitRow l.size k (get_or l.rows.items k d);
 }

@@ -18,7 +18,7 @@ measured_from n w s i columns column is lt e =
     let fine : IsColumn n column = subst (IsColumn n) (sym e) (All-get_or (IsColumn n) columns i column lt is.fine) in
     record {
       fine = fine;
-      is = omega (arith, ints, fine.some);
+      exact = omega (arith, ints, fine.positive);
       most = omega (arith, subst (λ (x : Column). sum_at n x ≤ widest n columns) (sym e) (sum-le_widest n i columns column lt), is.width_is, is.most);
     }
 
@@ -33,7 +33,7 @@ columns-preserved c =
     let one : c.columns.i + 1 ≡ suc c.columns.i = omega arith in
     let fits : SFits w128 column.cost = search rules in
     let size : c.unsigned_abs.result ≡ unsigned_abs column.cost = simp to_z-of_z at c.unsigned_abs.ensures.value in
-    let sum : c.in-Some.sum ≡ sum_at c.args.size column = omega (arith, ints, c.in-Some.ensures.is) in
+    let sum : c.in-Some.sum ≡ sum_at c.args.size column = omega (arith, ints, c.in-Some.ensures.exact) in
     record {
       fine = All-more (IsColumn c.args.size) c.args.columns.now c.columns.i column lt c.columns.invariant.fine (subst (IsColumn c.args.size) c.index-columns-i.is c.in-Some.ensures.fine);
       width_is = rw one (rw (widest-more c.args.size c.columns.i c.args.columns.now column lt, ← c.index-columns-i.is) (omega (arith, c.max-width.ensures, c.columns.invariant.width_is, sum)));

@@ -30,5 +30,5 @@ returns-in-None-clause-no c fits =
       fine = fits.fine;
       width_is = refl;
       cost_is = refl;
-      most = wide_most (length c.args.target.now) (widest (length c.args.target.now) c.args.columns.now) (omega (arith, fits.aim.some.1)) (one-le_widest (length c.args.target.now) c.args.columns.now) fits.room.wide;
+      most = wide_most (length c.args.target.now) (widest (length c.args.target.now) c.args.columns.now) (omega (arith, fits.aim.positive.1)) (one-le_widest (length c.args.target.now) c.args.columns.now) fits.room.wide;
     })

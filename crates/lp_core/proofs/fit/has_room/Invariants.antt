@@ -3,6 +3,6 @@ use Rattle.lp_core.proofs.fit.has_room.Given as goal
 
 abbrev pub invariant-power : goal.invariant-power
 invariant-power l = record {
-  is : l.power ≡ l.width ^ l._k;
+  exact : l.power ≡ l.width ^ l._k;
   most : l.power ≤ 2 ^ 62;
 }

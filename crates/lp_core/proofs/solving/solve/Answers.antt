@@ -9,10 +9,10 @@ use Rattle.lp_core.proofs.Refusing.{proof_of_none, no_weights_give}
 use Rattle.lp_core.proofs.solving.solve.Goals as goal
 
 size_is : (columns : List Column) (target : List ℤ) → Fits columns target → length target ≡ suc (length target - 1)
-size_is columns target fits = omega (arith, fits.aim.some.1)
+size_is columns target fits = omega (arith, fits.aim.positive.1)
 
-pub has_unit-requires-clause-same : goal.has_unit-requires-clause-same
-has_unit-requires-clause-same c =
+pub has_unit-requires-clause-sized : goal.has_unit-requires-clause-sized
+has_unit-requires-clause-sized c =
     let done = c.in_ok-end.ensures (length c.args.target.now - 1) (size_is c.args.columns.now c.args.target.now c.requires) in
     rw (c.deref.ensures.value, c.deref-2.ensures.value) (done.run.basis.held.count ∙ sym done.run.basis.count)
 

@@ -3,7 +3,7 @@ use Rattle.std.specs.Prelude.{unsigned_abs}
 use Rattle.lp_basis.specs.Held.{own_at}
 use Rattle.lp_basis.proofs.Lists.{each_of}
 use Rattle.lp_basis.proofs.Placed.{row_read}
-use Rattle.lp_core.specs.Ends.{met_by}
+use Rattle.lp_core.specs.Ends.{target_product}
 use Rattle.lp_core.specs.Weights.{IsLowest}
 use Rattle.lp_core.proofs.Weighing.{fits_row}
 use Rattle.lp_core.proofs.weight.fractions_of.Goals as goal
@@ -21,6 +21,6 @@ rows-preserved c =
     let size : length c.index-rows-j.result.numbers.items ≡ length c.args.target.now = ap length (sym read.0) ∙ can.held.lengths c.rows.j (omega (arith, c.rows-test.true, can.held.count)) ∙ sym can.size in
     let here = rw (size, ← read.0, ← read.1) at c.fraction_of-fraction.ensures in
     record {
-      same = search rules;
-      are = each_of (λ k fraction. IsLowest (unsigned_abs (met_by c.args.rows.now c.args.target.now k)) (unsigned_abs (own_at c.args.rows.now k)) fraction) c.rows.fractions.items c.push.new.self.items c.fraction_of-fraction.result c.rows.j c.rows.invariant.same c.in_ok-push.ensures.items c.rows.invariant.are here;
+      sized = search rules;
+      every = each_of (λ k fraction. IsLowest (unsigned_abs (target_product c.args.rows.now c.args.target.now k)) (unsigned_abs (own_at c.args.rows.now k)) fraction) c.rows.fractions.items c.push.new.self.items c.fraction_of-fraction.result c.rows.j c.rows.invariant.sized c.in_ok-push.ensures.items c.rows.invariant.every here;
     }

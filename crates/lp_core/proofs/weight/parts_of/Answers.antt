@@ -7,5 +7,5 @@ fractions-init c = record { common = common_none c.args.fractions.now; small = o
 
 pub fractions-preserved : goal.fractions-preserved
 fractions-preserved c =
-    let next = common_more c.args.fractions.now c.fractions.j c.fractions.parts c.multiple-parts.result (record { numerator = 0; denominator = 0 }) c.fractions-test.true c.fractions.invariant.common c.multiple-parts.ensures in
-    record { common = next; small = common_small c.args.fractions.now _ c.multiple-parts.result c.requires (omega (arith, c.fractions-test.true)) next }
+    let next = common_more c.args.fractions.now c.fractions.j c.fractions.parts c.least_common_multiple-parts.result (record { numerator = 0; denominator = 0 }) c.fractions-test.true c.fractions.invariant.common c.least_common_multiple-parts.ensures in
+    record { common = next; small = common_small c.args.fractions.now _ c.least_common_multiple-parts.result c.requires (omega (arith, c.fractions-test.true)) next }

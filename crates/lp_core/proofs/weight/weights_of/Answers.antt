@@ -9,7 +9,7 @@ use Rattle.lp_core.proofs.weight.weights_of.Goals.{in-Some+then-weight-gt0+in_ok
 
 pub weight_of-weight-requires-clause-small : goal.weight_of-weight-requires-clause-small
 weight_of-weight-requires-clause-small c =
-    omega (arith, weight_read c.args.fractions.now c.args.parts c.places.j (record { numerator = 0; denominator = 0 }) (omega (arith, c.places-test.true, c.requires.same)), c.requires.small c.places.j (omega (arith, c.places-test.true, c.requires.same)))
+    omega (arith, weight_read c.args.fractions.now c.args.parts c.places.j (record { numerator = 0; denominator = 0 }) (omega (arith, c.places-test.true, c.requires.sized)), c.requires.small c.places.j (omega (arith, c.places-test.true, c.requires.sized)))
 
 no_column : (p : Option ℕ) (n : ℕ) (f : ℕ → ℤ) → ((k : ℕ) → p ≡ Some k → ⊥) → pos n *ℤ value_of f p ≡ pos 0
 no_column None n f not = omega (arith, ints)
@@ -21,7 +21,7 @@ no_weight n z e = ap (λ (k : ℕ). pos k *ℤ z) e ∙ omega (arith, ints)
 pub places-preserved : goal.places-preserved
 places-preserved c =
     let one : c.places.j + 1 ≡ suc c.places.j = omega arith in
-    let read = weight_read c.args.fractions.now c.args.parts c.places.j (record { numerator = 0; denominator = 0 }) (omega (arith, c.places-test.true, c.requires.same)) in
+    let read = weight_read c.args.fractions.now c.args.parts c.places.j (record { numerator = 0; denominator = 0 }) (omega (arith, c.places-test.true, c.requires.sized)) in
     elim c.match-places-j.branch [
       | in-Some+then-weight-gt0+in_ok-push w ↦
           let fits : SFits w128 w.weight_of-weight.result = search rules in

@@ -1,6 +1,6 @@
 use Rattle.std.proofs.Common.{take, length}
 use Rattle.std.specs.Prelude.{All}
-use Rattle.lp_basis.specs.Rows.{at}
+use Rattle.cal_math.specs.Vectors.{at}
 use Rattle.lp_stage.specs.Pricing.{IsDear}
 use Rattle.lp_stage.proofs.entering.entering.Given as goal
 

@@ -14,7 +14,7 @@ stepped-requires c =
 
 pub returns-in_ok-next-in-Some : goal.returns-in_ok-next-in-Some
 returns-in_ok-next-in-Some c b w s v run =
-    let enters = rw (c.deref.ensures.value, run.potentials.same) at c.in-Some.ensures in
+    let enters = rw (c.deref.ensures.value, run.potentials.sized) at c.in-Some.ensures in
     let step = rw (c.deref-in-Some.ensures.value, c.deref-in-Some-2.ensures.value) at c.in_ok-next-in-Some.ensures in
     step_gives b w s v c.args.phase c.args.columns.now c.args.starts.now c.args.stage.now c.in-Some.k c.in_ok-next-in-Some.next run enters
     (step b w s v (can_step b w s v c.args.phase c.args.columns.now c.args.starts.now c.args.stage.now c.in-Some.k run c.in-Some.ensures.within))

@@ -1,6 +1,6 @@
 use Rattle.std.proofs.Common.{◌≡◌, ℕ, suc, List, subst, refl}
 use Rattle.std.specs.Prelude.{All, Option, Some, None, MatchOption}
-use Rattle.lp_basis.specs.Rows.{at}
+use Rattle.cal_math.specs.Vectors.{at}
 use Rattle.lp_stage.specs.Pricing.{IsDear}
 use Rattle.lp_stage.specs.Running.{IsRunning, IsBetter, IsImproved}
 use Rattle.lp_basis.specs.declared.column.Column.{Column}

@@ -2,7 +2,7 @@ use Rattle.std.proofs.Common.{◌≡◌, ℕ, ◌<◌, rules, arith, slice_index
 use Rattle.std.specs.Int.{w128}
 use Rattle.std.proofs.lemmas.Int.{ints, to_z-of_z}
 use Rattle.cal_math.specs.Whole.{*ℤ_comm}
-use Rattle.lp_basis.specs.Rows.{at}
+use Rattle.cal_math.specs.Vectors.{at}
 use Rattle.lp_laws.specs.Orders.{IsLexAbove}
 use Rattle.lp_stage.proofs.leaving.is_before.Goals as goal
 

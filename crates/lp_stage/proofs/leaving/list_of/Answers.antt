@@ -2,9 +2,8 @@ use Rattle.std.proofs.Common.{◌≡◌, length, rules, SFits, ap, sym, ◌∙�
 use Rattle.std.specs.Prelude.{ℤ}
 use Rattle.std.specs.Int.{w128}
 use Rattle.std.proofs.lemmas.Int.{to_z-of_z}
-use Rattle.lp_laws.specs.Vectors.{dot}
-use Rattle.lp_basis.specs.Rows.{at}
-use Rattle.lp_stage.specs.Leaving.{listed}
+use Rattle.cal_math.specs.Vectors.{at, dot}
+use Rattle.lp_stage.specs.Leaving.{start_product}
 use Rattle.lp_basis.proofs.Lists.{each_pushed}
 use Rattle.lp_stage.proofs.RatioTest.{amounts_read}
 use Rattle.lp_stage.proofs.leaving.list_of.Goals as goal
@@ -21,6 +20,6 @@ starts-preserved c =
     let is = c.product-number.ensures ∙ ap (λ (xs : List ℤ). dot (length c.args.row.now) (at c.args.row.now) (at xs)) (c.deref.ensures.value ∙ sym read) in
     let items = simp to_z-of_z at c.in_ok-push.ensures.items in
     record {
-      same = search rules;
-      are = each_pushed (λ k v. v ≡ listed (length c.args.row.now) c.args.starts.now c.args.row.now k) c.starts.list.items c.push.new.self.items c.product-number.result c.starts.k c.starts.invariant.same items c.starts.invariant.are is;
+      sized = search rules;
+      every = each_pushed (λ k v. v ≡ start_product (length c.args.row.now) c.args.starts.now c.args.row.now k) c.starts.list.items c.push.new.self.items c.product-number.result c.starts.k c.starts.invariant.sized items c.starts.invariant.every is;
     }

@@ -1,7 +1,7 @@
 use Rattle.std.proofs.Common.{◌≡◌, ℕ, suc, ◌<◌, List, arith, sym, ◌∙◌, subst}
 use Rattle.std.specs.Prelude.{ℤ, pos, ◌≤ℤ◌, ◌≢◌, Option, Some, None, MatchOption}
 use Rattle.std.proofs.lemmas.Int.{ints}
-use Rattle.lp_stage.specs.Leaving.{amounts_at, met_at, IsLeaving, IsLeavingOf}
+use Rattle.lp_stage.specs.Leaving.{amounts_at, row_product, IsLeaving, IsLeavingOf}
 use Rattle.lp_stage.specs.Stages.{basis_columns, CanMove, CanStep}
 use Rattle.lp_basis.specs.declared.row.Row.{Row}
 use Rattle.lp_basis.specs.declared.column.Column.{Column}
@@ -14,7 +14,7 @@ not_zero z h e = omega (arith, ints, h, e)
 
 -- what the ratio test found
 found_at : (b w s v : ℕ) (phase : Phase) (columns starts : List Column) (places : List (Option ℕ)) (rows : List Row) (k : ℕ) (column : List ℤ) (found : Option ℕ) → CanStep b w s v phase columns starts places rows k → amounts_at columns k ≡ column →
-    IsLeavingOf rows column starts found → MatchOption found ((j : ℕ) → j < suc b → met_at (suc b) rows (amounts_at columns k) j ≤ℤ pos 0) (IsLeaving (suc b) rows (amounts_at columns k) starts (suc b))
+    IsLeavingOf rows column starts found → MatchOption found ((j : ℕ) → j < suc b → row_product (suc b) rows (amounts_at columns k) j ≤ℤ pos 0) (IsLeaving (suc b) rows (amounts_at columns k) starts (suc b))
 found_at b w s v phase columns starts places rows k column found can e is =
     subst (λ (xs : List ℤ). IsLeavingOf rows xs starts found) (sym e) is b w v (basis_columns columns places) can.leaves
 
@@ -25,7 +25,7 @@ can_move b w s v phase columns starts places rows i k can is = record {
   basis = can.basis;
   place = is.within;
   known = can.known;
-  met = not_zero (met_at (suc b) rows (amounts_at columns k) i) is.some;
+  met = not_zero (row_product (suc b) rows (amounts_at columns k) i) is.positive;
 }
 
 pub leaving-requires : goal.leaving-requires
@@ -36,9 +36,9 @@ leaving-requires c =
 
 -- what the ratio test found at one of its answers
 found_as : (b w s v : ℕ) (phase : Phase) (columns starts : List Column) (places : List (Option ℕ)) (rows : List Row) (k : ℕ) (column : List ℤ) (found answer : Option ℕ) → CanStep b w s v phase columns starts places rows k → amounts_at columns k ≡ column →
-    IsLeavingOf rows column starts found → found ≡ answer → MatchOption answer ((j : ℕ) → j < suc b → met_at (suc b) rows (amounts_at columns k) j ≤ℤ pos 0) (IsLeaving (suc b) rows (amounts_at columns k) starts (suc b))
+    IsLeavingOf rows column starts found → found ≡ answer → MatchOption answer ((j : ℕ) → j < suc b → row_product (suc b) rows (amounts_at columns k) j ≤ℤ pos 0) (IsLeaving (suc b) rows (amounts_at columns k) starts (suc b))
 found_as b w s v phase columns starts places rows k column found answer can e is same =
-    subst (λ (o : Option ℕ). MatchOption o ((j : ℕ) → j < suc b → met_at (suc b) rows (amounts_at columns k) j ≤ℤ pos 0) (IsLeaving (suc b) rows (amounts_at columns k) starts (suc b))) same (found_at b w s v phase columns starts places rows k column found can e is)
+    subst (λ (o : Option ℕ). MatchOption o ((j : ℕ) → j < suc b → row_product (suc b) rows (amounts_at columns k) j ≤ℤ pos 0) (IsLeaving (suc b) rows (amounts_at columns k) starts (suc b))) same (found_at b w s v phase columns starts places rows k column found can e is)
 
 pub exchanged-requires : goal.exchanged-requires
 exchanged-requires c =

@@ -1,0 +1,4 @@
+pub mod Products
+pub mod Vectors
+pub mod Bezout
+pub mod Divisors

@@ -1,2 +1,0 @@
-mod fitting;
-mod plans;
