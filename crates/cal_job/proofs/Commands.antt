@@ -4,8 +4,9 @@ use Rattle.std.specs.List.{list_all}
 use Rattle.std.proofs.lemmas.List.{length-map}
 use Rattle.std.specs.Cmp.Lexicographic.{same_text, other_text}
 use Rattle.std.specs.Option.{option_map}
-use Rattle.tdb_scan.specs.Words.{same_word, is_name}
+use Rattle.cal_scan.specs.Words.{same_word, is_name}
 use Rattle.cal_job.specs.declared.job.Job.{Job}
+use Rattle.cal_job.specs.declared.option.TheConstants.{AMOUNTS, AMOUNT_DECIMALS}
 use Rattle.cal_job.specs.Forms.{upper, fixed_of, item_from, item_of}
 use Rattle.cal_job.proofs.Pairing.{Only, only}
 use Rattle.cal_job.specs.Saying.{Word, is_plain, spelling, values_of, Asks, Says, SameJob}
@@ -96,8 +97,8 @@ item_from_name (name ∷ number ∷ []) item e = by_test (is_name (upper name)) 
     by_number None is made = absurd cc
     by_number (Some n) is made = let same : (upper name, n) ≡ item = cc in subst (λ (i : Word × ℕ). is_name i.0 ≡ true) same is
 
-    by_test : (b : Bool) → is_name (upper name) ≡ b → cond b (option_map (λ n. (upper name, n)) (fixed_of 9 number)) None ≡ Some item → is_name item.0 ≡ true
-    by_test true is made = by_number (fixed_of 9 number) is made
+    by_test : (b : Bool) → is_name (upper name) ≡ b → cond b (option_map (λ n. (upper name, n)) (fixed_of AMOUNT_DECIMALS number)) None ≡ Some item → is_name item.0 ≡ true
+    by_test true is made = by_number (fixed_of AMOUNT_DECIMALS number) is made
     by_test false is made = absurd cc
 item_from_name (name ∷ number ∷ more ∷ parts) item e = absurd cc
 
@@ -108,5 +109,5 @@ item_name text item e = item_from_name _ item e
 -- the element that words say is a name
 pub Says_name : (words : List Word) (job : Job) → Says words job → is_name job.element ≡ true
 Says_name words job says =
-    let one : Only item_of (values_of (codes "--amounts") says.pairs) (Some (job.element, job.amount)) = only item_of _ _ says.asked.amount in
+    let one : Only item_of (values_of AMOUNTS.now says.pairs) (Some (job.element, job.amount)) = only item_of _ _ says.asked.amount in
     item_name one.element (job.element, job.amount) one.gives

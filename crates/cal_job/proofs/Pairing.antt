@@ -3,7 +3,7 @@ use Rattle.std.proofs.Common.{◌≡◌, ℕ, ◌+◌, ◌*◌, ◌/◌, ◌<◌
 use Rattle.std.specs.List.{list_all}
 use Rattle.std.proofs.lemmas.List.{take_more, get_or-map, map-append, length-map}
 use Rattle.std.proofs.lemmas.List.Folds.{list_all-map}
-use Rattle.tdb_scan.specs.Words.{same_word}
+use Rattle.cal_scan.specs.Words.{same_word}
 use Rattle.cal_job.specs.declared.pair.Pair.{Pair}
 use Rattle.cal_job.specs.Pairs.{words_of, pairs_of}
 use Rattle.cal_job.specs.Saying.{Word, is_plain, spelling, values_of}
@@ -49,12 +49,12 @@ spells_on f words x y i ps qs p lt x_is y_is option value pushed so_far =
 -- the one element of a list that f takes to y
 pub record Only {A B : Type 0} (f : A → B) (xs : List A) (y : B) : Type 0 where
   pub element : A
-  pub is : xs ≡ element ∷ []
+  pub single : xs ≡ element ∷ []
   pub gives : f element ≡ y
 
 pub only : {A B : Type 0} (f : A → B) (xs : List A) (y : B) → map f xs ≡ y ∷ [] → Only f xs y
 only f [] y e = absurd (cc)
-only f (x ∷ []) y e = record { element = x; is = refl; gives = cc }
+only f (x ∷ []) y e = record { element = x; single = refl; gives = cc }
 only f (x ∷ w ∷ xs) y e = absurd (cc)
 
 pub single : {A B : Type 0} (f : A → B) (xs : List A) (x : A) (y : B) → xs ≡ x ∷ [] → f x ≡ y → map f xs ≡ y ∷ []

@@ -1,8 +1,11 @@
 -- What the words of a command line say.
-use Rattle.std.specs.Prelude.{◌≡◌, ℕ, ◌^◌, ◌≤◌, List, [], ◌∷◌, map, filter, codes, Bool, true, false, not, ◌&&◌, ◌==◌, string_bytes, Some}
+use Rattle.std.specs.Prelude.{◌≡◌, ℕ, ◌≤◌, List, [], ◌∷◌, map, filter, codes, Bool, true, false, not, ◌&&◌, ◌==◌, string_bytes, Option, Some}
 use Rattle.std.specs.List.{list_all, list_any}
-use Rattle.tdb_scan.specs.Words.{same_word}
+use Rattle.cal_scan.specs.Words.{same_word}
+use Rattle.cal_scan.specs.declared.byte.TheConstants.{MINUS}
 use Rattle.cef_core.specs.Lattices.{is_lattice}
+use Rattle.cal_limits.specs.declared.TheConstants.{LOWEST_TEMPERATURE, HIGHEST_TEMPERATURE, LEAST_NANOMOLES, MOST_NANOMOLES, FEWEST_PARTS, MOST_PARTS, LEAST_GAP, MOST_GAP, MOST_BUDGET}
+use Rattle.cal_job.specs.declared.option.TheConstants.{DATABASE, TEMPERATURE, TEMPERATURE_DECIMALS, AMOUNTS, LATTICE, GAP, GAP_DECIMALS, BUDGET}
 use Rattle.cal_job.specs.declared.job.Job.{Job}
 use Rattle.cal_job.specs.Forms.{fixed_of, item_of}
 
@@ -10,15 +13,15 @@ abbrev pub Word : Type 0
 Word = List ℕ
 
 abbrev pub options : List Word
-options = codes "--db" ∷ codes "--t" ∷ codes "--amounts" ∷ codes "--lattice" ∷ codes "--gap" ∷ codes "--budget" ∷ []
+options = DATABASE.now ∷ TEMPERATURE.now ∷ AMOUNTS.now ∷ LATTICE.now ∷ GAP.now ∷ BUDGET.now ∷ []
 
 abbrev pub is_option : Word → Bool
 is_option word = list_any (same_word word) options
 
--- not empty, and no `-` in front, which is the byte 45
+-- not empty, and no `-` in front
 abbrev pub is_value : Word → Bool
 is_value [] = false
-is_value (b ∷ _) = not (b == 45)
+is_value (b ∷ _) = not (b == MINUS)
 
 -- an option, and its value
 abbrev pub is_plain : Word × Word → Bool
@@ -33,28 +36,37 @@ spelling (pair ∷ pairs) = pair.0 ∷ pair.1 ∷ spelling pairs
 unfoldable pub values_of : Word → List (Word × Word) → List Word
 values_of option pairs = map (λ pair. pair.1) (filter (λ pair. same_word pair.0 option) pairs)
 
--- the ranges of the numbers of a job: 1 to 6000 K, 0.001 to 1000 mol, a listed lattice, 0.000001 to 1000000 J/mol, 0 to 2^40 splits
-pub record InRange (job : Job) : Type 0 where
-  pub t_low : 100 ≤ job.t
-  pub t_high : job.t ≤ 600000
-  pub amount_low : 1000000 ≤ job.amount
-  pub amount_high : job.amount ≤ 1000000000000
-  pub lattice_low : 10 ≤ job.lattice
-  pub lattice_high : job.lattice ≤ 1000
-  pub lattice_listed : is_lattice job.lattice ≡ true
-  pub gap_low : 1 ≤ job.gap
-  pub gap_high : job.gap ≤ 1000000000000
-  pub budget_high : job.budget ≤ 2 ^ 40
+-- the numbers of at most so many decimals, and the items, that the values behind an option write
+abbrev pub numbers_of : ℕ → Word → List (Word × Word) → List (Option ℕ)
+numbers_of decimals option pairs = map (fixed_of decimals) (values_of option pairs)
 
--- what the pairs ask for: each option stands exactly once, and its value, read in its form, is the job's; a number has at most 2, 9, 0, 6
--- or 0 decimals
+abbrev pub items_of : Word → List (Word × Word) → List (Option (Word × ℕ))
+items_of option pairs = map item_of (values_of option pairs)
+
+abbrev pub IsBetween : ℕ → ℕ → ℕ → Type 0
+IsBetween least most n = (least ≤ n) × (n ≤ most)
+
+-- the ranges of the numbers of a job
+pub record InRange (job : Job) : Type 0 where
+  pub t_low : LOWEST_TEMPERATURE ≤ job.t
+  pub t_high : job.t ≤ HIGHEST_TEMPERATURE
+  pub amount_low : LEAST_NANOMOLES ≤ job.amount
+  pub amount_high : job.amount ≤ MOST_NANOMOLES
+  pub lattice_low : FEWEST_PARTS ≤ job.lattice
+  pub lattice_high : job.lattice ≤ MOST_PARTS
+  pub lattice_listed : is_lattice job.lattice ≡ true
+  pub gap_low : LEAST_GAP ≤ job.gap
+  pub gap_high : job.gap ≤ MOST_GAP
+  pub budget_high : job.budget ≤ MOST_BUDGET
+
+-- what the pairs ask for: each option stands exactly once, and its value, read in its form, is the job's
 pub record Asks (pairs : List (Word × Word)) (job : Job) : Type 0 where
-  pub database : values_of (codes "--db") pairs ≡ string_bytes job.database ∷ []
-  pub t : map (fixed_of 2) (values_of (codes "--t") pairs) ≡ Some job.t ∷ []
-  pub amount : map item_of (values_of (codes "--amounts") pairs) ≡ Some (job.element, job.amount) ∷ []
-  pub lattice : map (fixed_of 0) (values_of (codes "--lattice") pairs) ≡ Some job.lattice ∷ []
-  pub gap : map (fixed_of 6) (values_of (codes "--gap") pairs) ≡ Some job.gap ∷ []
-  pub budget : map (fixed_of 0) (values_of (codes "--budget") pairs) ≡ Some job.budget ∷ []
+  pub database : values_of DATABASE.now pairs ≡ string_bytes job.database ∷ []
+  pub t : numbers_of TEMPERATURE_DECIMALS TEMPERATURE.now pairs ≡ Some job.t ∷ []
+  pub amount : items_of AMOUNTS.now pairs ≡ Some (job.element, job.amount) ∷ []
+  pub lattice : numbers_of 0 LATTICE.now pairs ≡ Some job.lattice ∷ []
+  pub gap : numbers_of GAP_DECIMALS GAP.now pairs ≡ Some job.gap ∷ []
+  pub budget : numbers_of 0 BUDGET.now pairs ≡ Some job.budget ∷ []
   pub range : InRange job
 
 -- `equilibrium`, and then pairs of an option and its value that ask for the job

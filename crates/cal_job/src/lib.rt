@@ -4,6 +4,7 @@
 mod fault;
 mod job;
 mod number;
+mod option;
 mod pair;
 mod pairs;
 mod reading;
@@ -11,6 +12,3 @@ mod reading;
 pub use fault::WordsFault;
 pub use job::Job;
 pub use reading::read_words;
-
-#[cfg(test)]
-mod tests;

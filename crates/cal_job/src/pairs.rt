@@ -1,35 +1,37 @@
 ghost use Rattle.std.specs.Prelude.{◌≡◌, ◌%◌, ◌∷◌, ℕ, List, [], length, map, filter, string_bytes, Err, IfOk, codes};
 ghost use Rattle.std.specs.List.{list_all};
-ghost use Rattle.tdb_scan.specs.Words.{same_word};
+ghost use Rattle.cal_scan.specs.Words.{same_word};
 ghost use Rattle.cal_job.specs.Pairs.{words_of, pairs_of};
-ghost use Rattle.cal_job.specs.Saying.{is_option as is_option_word, is_value as is_value_word, is_plain as is_plain_pair, spelling, values_of};
+ghost use Rattle.cal_job.specs.Saying as saying;
+ghost use Rattle.cal_job.specs.Saying.{spelling, values_of};
 
 use crate::fault::WordsFault;
+use crate::option::{AMOUNTS, BUDGET, DATABASE, GAP, LATTICE, TEMPERATURE};
 use crate::pair::Pair;
+use cal_scan::{MINUS, is_word};
 use std::alloc::{AllocError, Global};
-use tdb_scan::is_word;
 
+/// Whether a word is one of the options.
 fn is_option(word: &[u8]) -> bool
-    ensures { result ≡ is_option_word word.now }
+    ensures { result ≡ saying.is_option word.now }
 {
-    is_word(word, b"--db")
-        || (is_word(word, b"--t")
-            || (is_word(word, b"--amounts")
-                || (is_word(word, b"--lattice")
-                    || (is_word(word, b"--gap") || is_word(word, b"--budget")))))
+    is_word(word, DATABASE)
+        || (is_word(word, TEMPERATURE)
+            || (is_word(word, AMOUNTS)
+                || (is_word(word, LATTICE) || (is_word(word, GAP) || is_word(word, BUDGET)))))
 }
 
 fn is_value(word: &[u8]) -> bool
-    ensures { result ≡ is_value_word word.now }
+    ensures { result ≡ saying.is_value word.now }
 {
     match word {
         [] => false,
-        [first, ..] => *first != b'-',
+        [first, ..] => *first != MINUS,
     }
 }
 
 fn is_plain(pair: Pair) -> bool
-    ensures { result ≡ is_plain_pair (words_of pair.entry) }
+    ensures { result ≡ saying.is_plain (words_of pair.entry) }
 {
     if !is_option(pair.option) {
         return false;
@@ -39,7 +41,7 @@ fn is_plain(pair: Pair) -> bool
 
 /// Whether each pair is one of the options and a plain value.
 pub fn are_plain(pairs: &[Pair]) -> bool
-    ensures { result ≡ list_all is_plain_pair (pairs_of pairs.now) }
+    ensures { result ≡ list_all saying.is_plain (pairs_of pairs.now) }
 {
     pairs.iter().all(|pair| is_plain(*pair))
 }

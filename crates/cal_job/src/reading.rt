@@ -1,46 +1,46 @@
 ghost use Rattle.std.specs.Prelude.{◌≡◌, ◌≤◌, ◌<◌, ◌∷◌, ℕ, List, [], IfOk, Err, Some, codes, map, string_bytes, true};
-ghost use Rattle.std.specs.List.{list_any};
+ghost use Rattle.cal_scan.specs.Lines.{texts};
+ghost use Rattle.cal_limits.specs.declared.TheConstants.{LOWEST_TEMPERATURE, HIGHEST_TEMPERATURE, LEAST_NANOMOLES, MOST_NANOMOLES, FEWEST_PARTS, MOST_PARTS};
 ghost use Rattle.cal_job.specs.declared.job.Job.{Job};
-ghost use Rattle.cal_job.specs.Forms.{fixed_of, item_of, item_from as item_of_parts};
+ghost use Rattle.cal_job.specs.declared.option.TheConstants.{TEMPERATURE_DECIMALS};
+ghost use Rattle.cal_job.specs.Forms as forms;
+ghost use Rattle.cal_job.specs.Forms.{fixed_of, item_of};
 ghost use Rattle.cal_job.specs.Pairs.{pairs_of};
-ghost use Rattle.cal_job.specs.Saying.{Word, Says, Asks, InRange, values_of};
-ghost use Rattle.tdb_scan.specs.Words.{is_name};
-ghost use Rattle.cef_core.specs.Lattices.{is_lattice as is_listed};
+ghost use Rattle.cal_job.specs.Saying.{Word, Says, Asks, InRange, IsBetween, values_of, numbers_of, items_of};
+ghost use Rattle.cal_scan.specs.Words.{is_name};
+ghost use Rattle.cef_core.specs.Lattices as lattices;
 
 use crate::fault::WordsFault;
 use crate::job::Job;
-use crate::number::{number_within, parts};
+use crate::number::{CAP, number_within};
+use crate::option::{
+    AMOUNT_FORM, AMOUNTS, BUDGET, BUDGET_FORM, DATABASE, GAP, GAP_FORM, LATTICE, LATTICE_FORM,
+    NumberForm, TEMPERATURE, TEMPERATURE_FORM,
+};
 use crate::pair::Pair;
 use crate::pairs::{are_plain, pairs, value};
-use cef_core::Name;
+use cal_scan::{EQUALS, Name, is_name_word, is_word, parts};
+use cef_core::is_lattice;
 use std::alloc::Global;
-use tdb_scan::{is_name_word, is_word};
 
-/// The number of an option that stands exactly once, in units of 10^-places, where it is within the bounds.
-fn number(
-    alloc: Global,
-    pairs: &[Pair],
-    option: &[u8],
-    places: usize,
-    low: u64,
-    high: u64,
-) -> Result<u64, WordsFault>
-    requires places { places < 100 }
-    requires high { high < 10000000000000 }
-    ensures value { IfOk result (λ number. map (fixed_of places) (values_of option.now (pairs_of pairs.now)) ≡ Some number ∷ []) }
-    ensures range { IfOk result (λ number. (low ≤ number) × (number ≤ high)) }
-    ensures usage { result ≡ Err WordsFault.Usage → (number : ℕ) → low ≤ number → number ≤ high → ¬ (map (fixed_of places) (values_of option.now (pairs_of pairs.now)) ≡ Some number ∷ []) }
+/// The number of an option that stands exactly once, in units of its last decimal, where it is within its range.
+fn number(alloc: Global, pairs: &[Pair], option: &[u8], form: NumberForm) -> Result<u64, WordsFault>
+    requires decimals { form.decimals ≤ 9 }
+    requires most { form.most < CAP }
+    ensures value { IfOk result (λ number. numbers_of form.decimals option.now (pairs_of pairs.now) ≡ Some number ∷ []) }
+    ensures range { IfOk result (IsBetween form.least form.most) }
+    ensures usage { result ≡ Err WordsFault.Usage → (number : ℕ) → IsBetween form.least form.most number → ¬ (numbers_of form.decimals option.now (pairs_of pairs.now) ≡ Some number ∷ []) }
 {
     let text = value(alloc, pairs, option)?;
-    let number = number_within(alloc, text.as_bytes(), places, low, high)?;
+    let number = number_within(alloc, text.as_bytes(), form)?;
     Ok(number)
 }
 
 /// The name and the amount, in nmol, of the two parts at `=`.
 fn item_from(alloc: Global, parts: &[&[u8]]) -> Result<(Name, u64), WordsFault>
-    ensures value { IfOk result (λ item. item_of_parts (map (λ part. part.now) parts.now) ≡ Some item) }
-    ensures range { IfOk result (λ item. (1000000 ≤ item.1) × (item.1 ≤ 1000000000000)) }
-    ensures usage { result ≡ Err WordsFault.Usage → (name : Word) → (amount : ℕ) → 1000000 ≤ amount → amount ≤ 1000000000000 → ¬ (item_of_parts (map (λ part. part.now) parts.now) ≡ Some (name, amount)) }
+    ensures value { IfOk result (λ item. forms.item_from (texts parts.now) ≡ Some item) }
+    ensures range { IfOk result (λ item. IsBetween LEAST_NANOMOLES MOST_NANOMOLES item.1) }
+    ensures usage { result ≡ Err WordsFault.Usage → (name : Word) → (amount : ℕ) → IsBetween LEAST_NANOMOLES MOST_NANOMOLES amount → ¬ (forms.item_from (texts parts.now) ≡ Some (name, amount)) }
 {
     match parts {
         [name, number] => {
@@ -49,7 +49,7 @@ fn item_from(alloc: Global, parts: &[&[u8]]) -> Result<(Name, u64), WordsFault>
                 return Err(WordsFault::Usage);
             }
             let name = Name::from_bytes(alloc, capitals.as_slice())?;
-            let amount = number_within(alloc, number, 9, 1_000_000, 1_000_000_000_000)?;
+            let amount = number_within(alloc, number, AMOUNT_FORM)?;
             Ok((name, amount))
         }
         _ => Err(WordsFault::Usage),
@@ -60,65 +60,55 @@ fn item_from(alloc: Global, parts: &[&[u8]]) -> Result<(Name, u64), WordsFault>
 #[tactic(auto, unfolding(crate::specs::Forms::item_of))]
 fn item(alloc: Global, text: &[u8]) -> Result<(Name, u64), WordsFault>
     ensures value { IfOk result (λ item. item_of text.now ≡ Some item) }
-    ensures range { IfOk result (λ item. (1000000 ≤ item.1) × (item.1 ≤ 1000000000000)) }
-    ensures usage { result ≡ Err WordsFault.Usage → (name : Word) → (amount : ℕ) → 1000000 ≤ amount → amount ≤ 1000000000000 → ¬ (item_of text.now ≡ Some (name, amount)) }
+    ensures range { IfOk result (λ item. IsBetween LEAST_NANOMOLES MOST_NANOMOLES item.1) }
+    ensures usage { result ≡ Err WordsFault.Usage → (name : Word) → (amount : ℕ) → IsBetween LEAST_NANOMOLES MOST_NANOMOLES amount → ¬ (item_of text.now ≡ Some (name, amount)) }
 {
-    let parts = parts(alloc, text, b'=')?;
+    let parts = parts(alloc, text, EQUALS)?;
     let item = item_from(alloc, parts.as_slice())?;
     Ok(item)
 }
 
 /// The name and the amount, in nmol, that `--amounts` gives.
 fn amounts(alloc: Global, pairs: &[Pair]) -> Result<(Name, u64), WordsFault>
-    ensures value { IfOk result (λ item. map item_of (values_of (codes "--amounts") (pairs_of pairs.now)) ≡ Some item ∷ []) }
-    ensures range { IfOk result (λ item. (1000000 ≤ item.1) × (item.1 ≤ 1000000000000)) }
-    ensures usage { result ≡ Err WordsFault.Usage → (name : Word) → (amount : ℕ) → 1000000 ≤ amount → amount ≤ 1000000000000 → ¬ (map item_of (values_of (codes "--amounts") (pairs_of pairs.now)) ≡ Some (name, amount) ∷ []) }
+    ensures value { IfOk result (λ item. items_of AMOUNTS.now (pairs_of pairs.now) ≡ Some item ∷ []) }
+    ensures range { IfOk result (λ item. IsBetween LEAST_NANOMOLES MOST_NANOMOLES item.1) }
+    ensures usage { result ≡ Err WordsFault.Usage → (name : Word) → (amount : ℕ) → IsBetween LEAST_NANOMOLES MOST_NANOMOLES amount → ¬ (items_of AMOUNTS.now (pairs_of pairs.now) ≡ Some (name, amount) ∷ []) }
 {
-    let text = value(alloc, pairs, b"--amounts")?;
+    let text = value(alloc, pairs, AMOUNTS)?;
     let item = item(alloc, text.as_bytes())?;
     Ok(item)
 }
 
-/// Whether the program has sublattices of so many parts.
-fn is_lattice(number: u64) -> bool
-    ensures { result ≡ is_listed number }
-{
-    matches!(
-        number,
-        10 | 20 | 25 | 40 | 50 | 100 | 125 | 200 | 250 | 500 | 1000
-    )
-}
-
 /// The number of parts that `--lattice` gives.
 fn lattice(alloc: Global, pairs: &[Pair]) -> Result<u32, WordsFault>
-    ensures value { IfOk result (λ lattice. map (fixed_of 0) (values_of (codes "--lattice") (pairs_of pairs.now)) ≡ Some lattice ∷ []) }
-    ensures range { IfOk result (λ lattice. (10 ≤ lattice) × (lattice ≤ 1000)) }
-    ensures listed { IfOk result (λ lattice. is_listed lattice ≡ true) }
-    ensures usage { result ≡ Err WordsFault.Usage → (lattice : ℕ) → 10 ≤ lattice → lattice ≤ 1000 → is_listed lattice ≡ true → ¬ (map (fixed_of 0) (values_of (codes "--lattice") (pairs_of pairs.now)) ≡ Some lattice ∷ []) }
+    ensures value { IfOk result (λ lattice. numbers_of 0 LATTICE.now (pairs_of pairs.now) ≡ Some lattice ∷ []) }
+    ensures range { IfOk result (IsBetween FEWEST_PARTS MOST_PARTS) }
+    ensures listed { IfOk result (λ lattice. lattices.is_lattice lattice ≡ true) }
+    ensures usage { result ≡ Err WordsFault.Usage → (lattice : ℕ) → IsBetween FEWEST_PARTS MOST_PARTS lattice → lattices.is_lattice lattice ≡ true → ¬ (numbers_of 0 LATTICE.now (pairs_of pairs.now) ≡ Some lattice ∷ []) }
 {
-    let lattice = number(alloc, pairs, b"--lattice", 0, 10, 1000)?;
+    let lattice = number(alloc, pairs, LATTICE, LATTICE_FORM)? as u32;
     if !is_lattice(lattice) {
         return Err(WordsFault::Usage);
     }
-    Ok(lattice as u32)
+    Ok(lattice)
 }
 
 /// The temperature that `--t` gives, in hundredths of a kelvin.
 fn temperature(alloc: Global, pairs: &[Pair]) -> Result<u32, WordsFault>
-    ensures value { IfOk result (λ t. map (fixed_of 2) (values_of (codes "--t") (pairs_of pairs.now)) ≡ Some t ∷ []) }
-    ensures range { IfOk result (λ t. (100 ≤ t) × (t ≤ 600000)) }
-    ensures usage { result ≡ Err WordsFault.Usage → (t : ℕ) → 100 ≤ t → t ≤ 600000 → ¬ (map (fixed_of 2) (values_of (codes "--t") (pairs_of pairs.now)) ≡ Some t ∷ []) }
+    ensures value { IfOk result (λ t. numbers_of TEMPERATURE_DECIMALS TEMPERATURE.now (pairs_of pairs.now) ≡ Some t ∷ []) }
+    ensures range { IfOk result (IsBetween LOWEST_TEMPERATURE HIGHEST_TEMPERATURE) }
+    ensures usage { result ≡ Err WordsFault.Usage → (t : ℕ) → IsBetween LOWEST_TEMPERATURE HIGHEST_TEMPERATURE t → ¬ (numbers_of TEMPERATURE_DECIMALS TEMPERATURE.now (pairs_of pairs.now) ≡ Some t ∷ []) }
 {
-    let t = number(alloc, pairs, b"--t", 2, 100, 600_000)?;
+    let t = number(alloc, pairs, TEMPERATURE, TEMPERATURE_FORM)?;
     Ok(t as u32)
 }
 
 /// The name of the file that `--db` gives.
 fn database(alloc: Global, pairs: &[Pair]) -> Result<String, WordsFault>
-    ensures value { IfOk result (λ database. values_of (codes "--db") (pairs_of pairs.now) ≡ string_bytes database ∷ []) }
-    ensures usage { result ≡ Err WordsFault.Usage → (name : Word) → ¬ (values_of (codes "--db") (pairs_of pairs.now) ≡ name ∷ []) }
+    ensures value { IfOk result (λ database. values_of DATABASE.now (pairs_of pairs.now) ≡ string_bytes database ∷ []) }
+    ensures usage { result ≡ Err WordsFault.Usage → (name : Word) → ¬ (values_of DATABASE.now (pairs_of pairs.now) ≡ name ∷ []) }
 {
-    let text = value(alloc, pairs, b"--db")?;
+    let text = value(alloc, pairs, DATABASE)?;
     let name = text.to_string(alloc)?;
     Ok(name)
 }
@@ -131,8 +121,8 @@ fn asked(alloc: Global, pairs: &[Pair]) -> Result<Job, WordsFault>
     let t = temperature(alloc, pairs)?;
     let (element, amount) = amounts(alloc, pairs)?;
     let lattice = lattice(alloc, pairs)?;
-    let gap = number(alloc, pairs, b"--gap", 6, 1, 1_000_000_000_000)?;
-    let budget = number(alloc, pairs, b"--budget", 0, 0, 1_099_511_627_776)?;
+    let gap = number(alloc, pairs, GAP, GAP_FORM)?;
+    let budget = number(alloc, pairs, BUDGET, BUDGET_FORM)?;
     let database = database(alloc, pairs)?;
     Ok(Job {
         database,

@@ -1,7 +1,7 @@
 -- Exact readers, and how they are put together.
 use Rattle.std.proofs.Common.{◌≡◌, ℕ, ◌+◌, ◌⊎◌, inl, inr, List, [], ◌∷◌, ◌++◌, length, Result, Ok, Err, refl, sym, ap, subst, ◌∙◌, append_assoc, arith}
 use Rattle.std.proofs.lemmas.List.{append-nil, length-append}
-use Rattle.cef_core.specs.Texts.{Line}
+use Rattle.cal_scan.specs.Lines.{Line}
 use Rattle.cal_lines.specs.Reading.{Lines, Read, Stops, ◌>>=◌, both, pair, only}
 use Rattle.cal_lines.proofs.Feeds.{AreLines, are_lines-append}
 

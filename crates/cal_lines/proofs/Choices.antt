@@ -2,7 +2,7 @@
 use Rattle.std.proofs.Common.{◌≡◌, ℕ, zero, suc, ◌+◌, ◌≤◌, ◌⊎◌, inl, inr, Bool, true, false, cond, List, [], ◌∷◌, ◌++◌, length, Result, Ok, Err, refl, sym, ap, subst, ◌∙◌, append_assoc, arith}
 use Rattle.std.specs.List.{flat_map, AllByRecursion}
 use Rattle.std.proofs.lemmas.List.{append-nil}
-use Rattle.cef_core.specs.Texts.{Line}
+use Rattle.cal_scan.specs.Lines.{Line}
 use Rattle.cal_lines.specs.Reading.{Lines, Read, Stops, ◌>>=◌, both, pair}
 use Rattle.cal_lines.specs.Choosing.{either, each, nothing, in_front, at_end, until}
 use Rattle.cal_lines.proofs.Feeds.{AreLines}

@@ -5,7 +5,7 @@ use Rattle.std.proofs.lemmas.Bool.{eqb-true, ltb-false}
 use Rattle.std.proofs.lemmas.List.{take-append-drop, drop_more, drop-drop}
 use Rattle.std.proofs.lemmas.List.Sums.{fails_before_first}
 use Rattle.std.proofs.lemmas.List.Quantifiers.{position-Some}
-use Rattle.cef_core.specs.Texts.{Word, Line}
+use Rattle.cal_scan.specs.Lines.{Word, Line}
 use Rattle.cal_lines.specs.Reading.{words_of, all_words, lines_of, before_lines, with_front, without_feed, line_at}
 
 abbrev pub HasNoFeed : List ℕ → Type 0
@@ -33,7 +33,7 @@ concat-lines_of (b ∷ bs) = by_test (eqb b 10) refl (concat-lines_of bs)
 -- lines with a line feed at the end and no other
 pub record IsLine (l : Line) : Type 0 where
   pub front : List ℕ
-  pub is : l ≡ front ++ 10 ∷ []
+  pub cut : l ≡ front ++ 10 ∷ []
   pub clean : HasNoFeed front
 
 abbrev pub AreLines : List Line → Type 0
@@ -43,8 +43,8 @@ pub lines_of-concat : (ls : List Line) → AreLines ls → lines_of (concat ls) 
 lines_of-concat [] all = refl
 lines_of-concat (l ∷ ls) all =
     let p = all.0 in
-    let regrouped : l ++ concat ls ≡ p.front ++ 10 ∷ concat ls = ap (λ (t : List ℕ). t ++ concat ls) p.is ∙ append_assoc p.front (10 ∷ []) (concat ls) in
-    ap lines_of regrouped ∙ lines_cut p.front (concat ls) p.clean ∙ same l (p.front ++ 10 ∷ []) (lines_of (concat ls)) ls p.is (lines_of-concat ls all.1)
+    let regrouped : l ++ concat ls ≡ p.front ++ 10 ∷ concat ls = ap (λ (t : List ℕ). t ++ concat ls) p.cut ∙ append_assoc p.front (10 ∷ []) (concat ls) in
+    ap lines_of regrouped ∙ lines_cut p.front (concat ls) p.clean ∙ same l (p.front ++ 10 ∷ []) (lines_of (concat ls)) ls p.cut (lines_of-concat ls all.1)
   where
     same : (a b : Line) (xs ys : List Line) → a ≡ b → xs ≡ ys → b ∷ xs ≡ a ∷ ys
     same a b xs ys p q = cc

@@ -6,8 +6,8 @@ use Rattle.std.proofs.lemmas.List.{take-append-drop, drop_more, get_or-take, get
 use Rattle.std.proofs.lemmas.List.Splits.{slice_split_none, slice_split_at}
 use Rattle.std.proofs.lemmas.List.Sums.{fails_before_first}
 use Rattle.std.proofs.lemmas.List.Quantifiers.{position-Some}
-use Rattle.tdb_scan.specs.Words.{same_word}
-use Rattle.cef_core.specs.Texts.{Word, Line, line}
+use Rattle.cal_scan.specs.Words.{same_word}
+use Rattle.cal_scan.specs.Lines.{Word, Line, line}
 use Rattle.cal_lines.specs.Reading.{lines_of, all_words}
 use Rattle.cal_lines.specs.Choosing.{is_first, begins_with, next_passes}
 use Rattle.cal_lines.proofs.Feeds.{feed-again, no_line, first_line}

@@ -5,10 +5,9 @@ pub mod Many
 pub mod Choices
 pub mod Parts
 pub mod Numbers
-pub mod Digits
 pub mod Steps
 pub mod Sorts
-pub mod Distinct
 pub mod Wholes
 pub mod Spelled
 pub mod Firsts
+pub mod OneLine

@@ -5,7 +5,7 @@ use Rattle.std.proofs.lemmas.List.{length-append}
 use Rattle.std.proofs.lemmas.List.Elements.{All-from_recursion}
 use Rattle.std.proofs.lemmas.List.Splits.{slice_split_none, slice_split_at, join_with_byte-slice_split}
 use Rattle.std.proofs.lemmas.Bool.{eqb-false}
-use Rattle.cef_core.specs.Texts.{Word, Line, line}
+use Rattle.cal_scan.specs.Lines.{Word, Line, line}
 use Rattle.cal_lines.specs.Reading.{Lines, Stops, ◌>>=◌, without_feed, all_words, words_of, taken, line_at, of_line, many, Runs}
 use Rattle.cal_lines.proofs.Feeds.{HasNoFeed, IsLine, AreLines, feed-again, feed-found}
 use Rattle.cal_lines.proofs.Algebra.{bind_ok, bind_err, ok_is, Took, Exact}
@@ -55,7 +55,7 @@ clean_words (w ∷ v ∷ ws) is = no_feeds w (32 ∷ join_with_byte 32 (v ∷ ws
 
 pub is_line : (ws : List Word) → IsWords ws → IsLine (line ws)
 unfolding line
-is_line ws is = record { front = join_with_byte 32 ws; is = refl; clean = clean_words ws is }
+is_line ws is = record { front = join_with_byte 32 ws; cut = refl; clean = clean_words ws is }
 
 pub words_of-line : (ws : List Word) → IsWords ws → words_of (line ws) ≡ Some ws
 unfolding line
@@ -78,7 +78,7 @@ pub record Kind {A : Type 0} (words : A → List Word) (Fits : A → Type 0) (pa
   pub found : (ws : List Word) (a : A) → parse ws ≡ Some a → (ws ≡ words a) × Fits a
   pub again : (a : A) → Fits a → parse (words a) ≡ Some a
   pub plain : (a : A) → Fits a → IsWords (words a)
-  pub some : (a : A) × Fits a
+  pub example : (a : A) × Fits a
 
 pub taken_ok : {A B : Type 0} (n : ℕ) (o : Option A) (f : A → Result B ℕ) (y : B) → taken n o f ≡ Ok y → (a : A) × (o ≡ Some a) × (f a ≡ Ok y)
 taken_ok n None f y e = absurd cc
@@ -262,7 +262,7 @@ exact_line {A = A} words Fits parse kind = record { took = took; again = again; 
           rest = [];
           cut = refl;
           count = omega (arith, same);
-          goes = (kind.some.0, kind.some.1, line (words kind.some.0) ∷ [], refl);
+          goes = (kind.example.0, kind.example.1, line (words kind.example.0) ∷ [], refl);
           ends = λ longer others more a cut fits spells. omega (arith, same, ap length cut, length-append longer others);
         }
     stops n (l ∷ ls) k e =
@@ -272,7 +272,7 @@ exact_line {A = A} words Fits parse kind = record { took = took; again = again; 
             rest = l ∷ ls;
             cut = refl;
             count = omega (arith, h.1);
-            goes = (kind.some.0, kind.some.1, line (words kind.some.0) ∷ [], refl);
+            goes = (kind.example.0, kind.example.1, line (words kind.example.0) ∷ [], refl);
             ends = λ longer others more a cut fits spells. unknown n l ls k h.0 h.1 longer others more a cut fits spells;
           }
           | inr h ↦ absurd cc

@@ -3,7 +3,7 @@ use Rattle.std.proofs.Common.{◌≡◌, ℕ, zero, suc, ◌+◌, ◌<◌, List,
 use Rattle.std.proofs.lemmas.List.{append-nil}
 use Rattle.cal_lines.specs.declared.fault.TextFault.{TextFault}
 use Rattle.cal_lines.specs.declared.fault.TextFault.TheVariants as faults
-use Rattle.cef_core.specs.Texts.{Word, Line}
+use Rattle.cal_scan.specs.Lines.{Word, Line}
 use Rattle.cal_lines.specs.Reading.{Lines, ◌>>=◌, Fails, words_of, taken, line_at, of_line, many}
 
 -- what was read before, and what is still read

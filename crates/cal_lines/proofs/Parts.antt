@@ -1,7 +1,7 @@
 -- Reading parts one after the other, as a loop does: one for each of some keys, or until an end.
 use Rattle.std.proofs.Common.{◌≡◌, ℕ, zero, suc, ◌+◌, ◌≤◌, ◌<◌, Bool, true, false, ◌⊎◌, inl, inr, List, [], ◌∷◌, ◌++◌, length, map, drop, get_or, Option, Result, Ok, Err, refl, sym, ap, ◌∙◌, append_assoc, arith}
 use Rattle.std.proofs.lemmas.List.{at_drop_more, at_drop_all, append-nil}
-use Rattle.cef_core.specs.Texts.{Word, Line}
+use Rattle.cal_scan.specs.Lines.{Word, Line}
 use Rattle.cal_lines.specs.declared.fault.TextFault.{TextFault}
 use Rattle.cal_lines.specs.declared.fault.TextFault.TheVariants as faults
 use Rattle.cal_lines.specs.Reading.{of_line, line_at, Lines, Read, ◌>>=◌, Fails, both}

@@ -2,7 +2,7 @@
 use Rattle.std.proofs.Common.{◌≡◌, ℕ, Bool, true, false, cond, eqb, List, [], ◌∷◌, length, Result, Ok, Err, refl, sym, ap, subst, ◌∙◌}
 use Rattle.std.specs.Prelude.{IfOk}
 use Rattle.std.specs.List.{concat}
-use Rattle.cef_core.specs.Texts.{Line}
+use Rattle.cal_scan.specs.Lines.{Line}
 use Rattle.cal_lines.specs.declared.fault.TextFault.{TextFault}
 use Rattle.cal_lines.specs.declared.fault.TextFault.TheVariants as faults
 use Rattle.cal_lines.specs.Reading.{lines_of, before_lines, Lines, Read, ◌>>=◌, Stops, Fails, Gives, OnLine, only, ended}

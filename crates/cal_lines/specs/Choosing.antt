@@ -1,8 +1,8 @@
 -- One format or another, by its first line; a list of parts, one for each of some keys; and a list of parts that an end closes.
 use Rattle.std.specs.Prelude.{ℕ, zero, suc, List, [], ◌∷◌, Option, Some, None, Ok, Err, Bool, false, cond, ◌⊎◌}
 use Rattle.std.proofs.Common.{inl, inr}
-use Rattle.tdb_scan.specs.Words.{same_word}
-use Rattle.cef_core.specs.Texts.{Word, Line}
+use Rattle.cal_scan.specs.Words.{same_word}
+use Rattle.cal_scan.specs.Lines.{Word, Line}
 use Rattle.cal_lines.specs.Reading.{Read, ◌>>=◌, both, pair, words_of}
 
 -- by the test on the first line, one format or the other

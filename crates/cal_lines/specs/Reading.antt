@@ -1,7 +1,8 @@
 -- Reading lines from the first on, with the line of the first fault.
 use Rattle.std.specs.Prelude.{◌≡◌, ℕ, zero, suc, ◌+◌, ◌≤◌, List, [], ◌∷◌, ◌++◌, length, Option, Some, None, Result, Ok, Err, cond, ◌==◌}
 use Rattle.std.specs.List.{slice_split}
-use Rattle.cef_core.specs.Texts.{Word, Line}
+use Rattle.cal_scan.specs.Lines.{Word, Line}
+use Rattle.cal_scan.specs.declared.byte.TheConstants.{SPACE, LINE_FEED}
 use Rattle.cal_lines.specs.declared.fault.TextFault.{TextFault}
 use Rattle.cal_lines.specs.declared.fault.TextFault.TheVariants as faults
 
@@ -12,7 +13,7 @@ before_lines b (l ∷ ls) = (b ∷ l) ∷ ls
 
 abbrev pub lines_of : List ℕ → List Line
 lines_of [] = []
-lines_of (b ∷ bs) = cond (b == 10) ((10 ∷ []) ∷ lines_of bs) (before_lines b (lines_of bs))
+lines_of (b ∷ bs) = cond (b == LINE_FEED) ((LINE_FEED ∷ []) ∷ lines_of bs) (before_lines b (lines_of bs))
 
 -- The texts spell values of A, each as some lines. Of these lines, the first of which has the number n, those before
 -- the number k are the first lines of some text, and no more of them are.
@@ -60,12 +61,12 @@ with_front b (Some bs) = Some (b ∷ bs)
 
 unfoldable pub without_feed : Line → Option (List ℕ)
 without_feed [] = None
-without_feed (b ∷ []) = cond (b == 10) (Some []) None
+without_feed (b ∷ []) = cond (b == LINE_FEED) (Some []) None
 without_feed (b ∷ c ∷ bs) = with_front b (without_feed (c ∷ bs))
 
 abbrev pub all_words : Option (List ℕ) → Option (List Word)
 all_words None = None
-all_words (Some bs) = Some (slice_split (λ b. b == 32) bs)
+all_words (Some bs) = Some (slice_split (λ b. b == SPACE) bs)
 
 abbrev pub words_of : Line → Option (List Word)
 words_of l = all_words (without_feed l)

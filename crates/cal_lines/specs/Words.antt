@@ -1,24 +1,20 @@
--- Words that are whole numbers, and lists of names.
-use Rattle.std.specs.Prelude.{ℕ, zero, suc, ◌+◌, ◌-◌, ◌*◌, List, [], ◌∷◌, Option, Some, None, Bool, true, false, cond, not, ◌&&◌, ◌==◌, nat_lt, ℤ, pos, negsuc}
-use Rattle.std.specs.List.{list_any}
-use Rattle.tdb_scan.specs.Bytes.{is_digit}
-use Rattle.tdb_scan.specs.Words.{same_word, is_name}
-use Rattle.cef_core.specs.Texts.{Word}
+-- Words that are whole numbers.
+use Rattle.std.specs.Prelude.{ℕ, zero, suc, [], ◌∷◌, Option, Some, None, Bool, false, cond, not, ◌&&◌, ◌==◌, nat_le, ℤ, pos, negsuc}
+use Rattle.std.specs.List.{list_all}
+use Rattle.cal_scan.specs.Bytes.{is_digit}
+use Rattle.cal_scan.specs.Numbers.{digits_value}
+use Rattle.cal_scan.specs.Lines.{Word}
+use Rattle.cal_scan.specs.declared.byte.TheConstants.{MINUS, ZERO}
 
--- what a value becomes by more digits, if it is at most limit all along
-unfoldable pub digits_from : ℕ → ℕ → Word → Option ℕ
-digits_from limit n [] = Some n
-digits_from limit n (b ∷ bs) = cond (is_digit b && nat_lt (n * 10 + (b - 48)) (limit + 1)) (digits_from limit (n * 10 + (b - 48)) bs) None
-
--- not empty, and no zero leads
+-- digits with no zero in front, but for the number 0 itself
 abbrev pub is_plain : Word → Bool
 is_plain [] = false
-is_plain (b ∷ []) = true
-is_plain (b ∷ c ∷ bs) = not (b == 48)
+is_plain (b ∷ []) = is_digit b
+is_plain (b ∷ c ∷ bs) = not (b == ZERO) && list_all is_digit (b ∷ c ∷ bs)
 
--- decimal digits with no leading zero, of a number up to the limit
-unfoldable pub natural : ℕ → Word → Option ℕ
-natural limit w = cond (is_plain w) (digits_from limit 0 w) None
+-- the value of such digits, up to the limit
+unfoldable pub natural_of : ℕ → Word → Option ℕ
+natural_of limit w = cond (is_plain w && nat_le (digits_value w) limit) (Some (digits_value w)) None
 
 abbrev pub as_positive : Option ℕ → Option ℤ
 as_positive None = None
@@ -30,15 +26,6 @@ as_negative (Some zero) = None
 as_negative (Some (suc n)) = Some (negsuc n)
 
 -- the same with `-` in front of a number below 0, for a magnitude up to the limit
-unfoldable pub integer : ℕ → Word → Option ℤ
-integer limit [] = None
-integer limit (b ∷ bs) = cond (b == 45) (as_negative (natural limit bs)) (as_positive (natural limit (b ∷ bs)))
-
--- whether a word is among others
-abbrev pub stands_in : Word → List Word → Bool
-stands_in w ws = list_any (λ v. same_word w v) ws
-
--- names, none of them twice
-unfoldable pub are_names : List Word → Bool
-are_names [] = true
-are_names (w ∷ ws) = cond (is_name w) (cond (stands_in w ws) false (are_names ws)) false
+unfoldable pub integer_of : ℕ → Word → Option ℤ
+integer_of limit [] = None
+integer_of limit (b ∷ bs) = cond (b == MINUS) (as_negative (natural_of limit bs)) (as_positive (natural_of limit (b ∷ bs)))

@@ -2,23 +2,23 @@
 
 ghost use Rattle.std.specs.Prelude.{◌≡◌, ◌==◌, ◌∷◌, List};
 ghost use Rattle.std.specs.List.{position, slice_split};
-ghost use Rattle.cef_core.specs.Texts.{Word};
+ghost use Rattle.cal_scan.specs.Lines.{Word};
 ghost use Rattle.cal_lines.specs.Choosing.{next_passes, begins_with};
 ghost use Rattle.cal_lines.specs.Places.{place};
 
 use crate::place::Place;
 use crate::words::line_end;
-use tdb_scan::is_word;
+use cal_scan::{SPACE, is_word};
 
 fn space_in(line: &[u8]) -> Option<usize>
-    ensures { result ≡ position (λ b. b == 32) line.now }
+    ensures { result ≡ position (λ b. b == SPACE) line.now }
 {
-    line.iter().position(|byte| *byte == b' ')
+    line.iter().position(|byte| *byte == SPACE)
 }
 
 /// The bytes before the first space.
 fn first_word(line: &[u8]) -> &[u8]
-    ensures { (rest : List Word) × (slice_split (λ b. b == 32) line.now ≡ result.now ∷ rest) }
+    ensures { (rest : List Word) × (slice_split (λ b. b == SPACE) line.now ≡ result.now ∷ rest) }
 {
     match space_in(line) {
         None => line,

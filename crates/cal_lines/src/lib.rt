@@ -4,18 +4,17 @@
 mod choice;
 mod ends;
 mod fault;
+mod line;
 mod name_list;
 mod number;
 mod number_list;
-mod once;
 mod place;
-#[cfg(test)]
-mod tests;
 mod words;
 
 pub use choice::next_begins_with;
 pub use fault::TextFault;
-pub use name_list::{copies, names};
+pub use line::read_line;
+pub use name_list::names;
 pub use number::{integer_of, natural_of};
 pub use number_list::all_integers;
 pub use place::Place;

@@ -1,67 +1,54 @@
-ghost use Rattle.std.specs.Prelude.{◌≡◌, ℕ, ℤ, ◌≤◌, ◌^◌, IfSome, Some};
-ghost use Rattle.std.specs.Fmt.{decimal, signed_decimal};
-ghost use Rattle.cal_lines.specs.Words.{natural, integer, digits_from, is_plain, as_negative, as_positive};
-ghost use Rattle.cal_lines.specs.Kinds.{IsUpTo};
+//! Words that are whole numbers.
 
-use tdb_scan::is_digit_byte;
+ghost use Rattle.std.specs.Prelude.{◌≡◌, ℕ, ℤ, ◌≤◌, IfSome, Some};
+ghost use Rattle.cal_lines.specs.Words as words;
+ghost use Rattle.cal_lines.specs.Kinds as kinds;
 
-fn is_plain_word(word: &[u8]) -> bool
-    ensures { result ≡ is_plain word.now }
+use cal_limits::MOST_NUMBER;
+use cal_scan::{MINUS, ZERO, all_digits, capped_value, is_digit_byte};
+
+/// Whether a word is digits with no zero in front, but for the number 0 itself.
+fn is_plain(word: &[u8]) -> bool
+    ensures { result ≡ words.is_plain word.now }
 {
     match word {
         [] => false,
-        [_] => true,
-        [first, _, ..] => *first != b'0',
+        [digit] => is_digit_byte(*digit),
+        [first, _, ..] => {
+            if *first == ZERO {
+                return false;
+            }
+            all_digits(word)
+        }
     }
 }
 
-#[tactic(auto, unfolding(crate::specs::Words::natural))]
-fn plain_digits_of(word: &[u8], limit: u128) -> Option<u128>
-    requires { limit ≤ 2 ^ 120 }
-    ensures value { result ≡ natural limit word.now }
-    ensures bound { IfSome result (λ n. n ≤ limit) }
+fn plain_number(word: &[u8], limit: u128) -> Option<u128>
+    requires { limit ≤ MOST_NUMBER }
+    ensures { result ≡ words.natural_of limit word.now }
 {
-    if !is_plain_word(word) {
+    if !is_plain(word) {
         return None;
     }
-    digits_of(word, limit)
+    let value = capped_value(word, limit + 1);
+    if value > limit { None } else { Some(value) }
 }
 
 /// A whole number from 0 to the limit, in decimal digits with no sign and no leading zero.
 pub fn natural_of(word: &[u8], limit: u128) -> Option<u128>
-    requires { limit ≤ 2 ^ 120 }
-    ensures value { result ≡ natural limit word.now }
-    ensures bound { IfSome result (λ n. n ≤ limit) }
-    // The word is the number's digits.
-    ensures found { IfSome result (λ n. word.now ≡ decimal n) }
+    requires { limit ≤ MOST_NUMBER }
+    ensures value { result ≡ words.natural_of limit word.now }
+    // The word is the number's digits, and the number within the limit.
+    ensures found { IfSome result (kinds.IsNatural limit word.now) }
     // Each number within the limit is read.
-    ensures all { (n : ℕ) → n ≤ limit → word.now ≡ decimal n → result ≡ Some n }
+    ensures all { (n : ℕ) → kinds.IsNatural limit word.now n → result ≡ Some n }
 {
-    plain_digits_of(word, limit)
-}
-
-fn digits_of(word: &[u8], limit: u128) -> Option<u128>
-    requires { limit ≤ 2 ^ 120 }
-    ensures value { result ≡ digits_from limit 0 word.now }
-    ensures bound { IfSome result (λ n. n ≤ limit) }
-{
-    let mut value: u128 = 0;
-    'digits: for byte in word {
-        if !is_digit_byte(*byte) {
-            return None;
-        }
-        let next = value * 10 + (*byte - b'0') as u128;
-        if next > limit {
-            return None;
-        }
-        value = next;
-    }
-    Some(value)
+    plain_number(word, limit)
 }
 
 fn negative(size: u128) -> Option<i128>
-    requires { size ≤ 2 ^ 120 }
-    ensures { result ≡ as_negative (Some size) }
+    requires { size ≤ MOST_NUMBER }
+    ensures { result ≡ words.as_negative (Some size) }
 {
     if size == 0 {
         return None;
@@ -71,26 +58,27 @@ fn negative(size: u128) -> Option<i128>
 }
 
 fn positive(size: u128) -> i128
-    requires { size ≤ 2 ^ 120 }
-    ensures { Some result ≡ as_positive (Some size) }
+    requires { size ≤ MOST_NUMBER }
+    ensures { Some result ≡ words.as_positive (Some size) }
 {
     size as i128
 }
 
-#[tactic(auto, unfolding(crate::specs::Words::integer))]
-fn signed_digits_of(word: &[u8], limit: u128) -> Option<i128>
-    requires { limit ≤ 2 ^ 120 }
-    ensures { result ≡ integer limit word.now }
+#[tactic(auto, unfolding(crate::specs::Words::integer_of))]
+fn signed_number(word: &[u8], limit: u128) -> Option<i128>
+    requires { limit ≤ MOST_NUMBER }
+    ensures { result ≡ words.integer_of limit word.now }
 {
     match word {
         [] => None,
-        [b'-', rest @ ..] => {
-            let size = natural_of(rest, limit)?;
-            negative(size)
-        }
-        [_, ..] => {
-            let size = natural_of(word, limit)?;
-            Some(positive(size))
+        [first, rest @ ..] => {
+            if *first == MINUS {
+                let size = natural_of(rest, limit)?;
+                negative(size)
+            } else {
+                let size = natural_of(word, limit)?;
+                Some(positive(size))
+            }
         }
     }
 }
@@ -98,12 +86,12 @@ fn signed_digits_of(word: &[u8], limit: u128) -> Option<i128>
 /// A whole number of a magnitude of at most the limit, in decimal digits with `-` in front of one below 0 and no leading
 /// zero.
 pub fn integer_of(word: &[u8], limit: u128) -> Option<i128>
-    requires { limit ≤ 2 ^ 120 }
-    ensures value { result ≡ integer limit word.now }
+    requires { limit ≤ MOST_NUMBER }
+    ensures value { result ≡ words.integer_of limit word.now }
     // The word is the number's digits, and its sign.
-    ensures found { IfSome result (λ z. IsUpTo limit z × (word.now ≡ signed_decimal z)) }
+    ensures found { IfSome result (kinds.IsInteger limit word.now) }
     // Each number within the limit is read.
-    ensures all { (z : ℤ) → IsUpTo limit z → word.now ≡ signed_decimal z → result ≡ Some z }
+    ensures all { (z : ℤ) → kinds.IsInteger limit word.now z → result ≡ Some z }
 {
-    signed_digits_of(word, limit)
+    signed_number(word, limit)
 }

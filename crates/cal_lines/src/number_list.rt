@@ -1,9 +1,9 @@
-ghost use Rattle.std.specs.Prelude.{◌≡◌, List, ℤ, ◌^◌, ◌≤◌, IfOk, IfSome, Some, Ok, map};
-ghost use Rattle.std.specs.Fmt.{signed_decimal};
-ghost use Rattle.std.specs.List.{AllByRecursion};
-ghost use Rattle.cal_lines.specs.Kinds.{IsUpTo, integers};
+ghost use Rattle.std.specs.Prelude.{◌≡◌, List, ℤ, ◌≤◌, IfOk, IfSome, Some, Ok};
+ghost use Rattle.cal_scan.specs.Lines.{texts};
+ghost use Rattle.cal_lines.specs.Kinds as kinds;
 
 use crate::number::integer_of;
+use cal_limits::MOST_NUMBER;
 use cal_list::Items;
 use std::alloc::{AllocError, Global};
 
@@ -12,15 +12,15 @@ fn integers_of(
     words: &[&[u8]],
     limit: u128,
 ) -> Result<Option<Items<i128>>, AllocError>
-    requires { limit ≤ 2 ^ 120 }
-    ensures { IfOk result (λ o. o ≡ integers limit (map (λ w. w.now) words.now)) }
+    requires { limit ≤ MOST_NUMBER }
+    ensures { IfOk result (λ o. o ≡ kinds.all_integers limit (texts words.now)) }
 {
     let mut all = Items::new(alloc);
     'words: for word in words {
-        match integer_of(*word, limit) {
-            None => return Ok(None),
-            Some(value) => all.push(value)?,
-        }
+        let Some(value) = integer_of(*word, limit) else {
+            return Ok(None);
+        };
+        all.push(value)?;
     }
     Ok(Some(all))
 }
@@ -31,12 +31,12 @@ pub fn all_integers(
     words: &[&[u8]],
     limit: u128,
 ) -> Result<Option<Items<i128>>, AllocError>
-    requires { limit ≤ 2 ^ 120 }
-    ensures value { IfOk result (λ o. o ≡ integers limit (map (λ w. w.now) words.now)) }
+    requires { limit ≤ MOST_NUMBER }
+    ensures value { IfOk result (λ o. o ≡ kinds.all_integers limit (texts words.now)) }
     // The words are the digits of the numbers.
-    ensures found { IfOk result (λ o. IfSome o (λ vs. AllByRecursion (IsUpTo limit) vs × (map (λ w. w.now) words.now ≡ map signed_decimal vs))) }
+    ensures found { IfOk result (λ o. IfSome o (kinds.AreIntegers limit (texts words.now))) }
     // All numbers within the limit are read.
-    ensures all { IfOk result (λ o. (vs : List ℤ) → AllByRecursion (IsUpTo limit) vs → map (λ w. w.now) words.now ≡ map signed_decimal vs → o ≡ Some vs) }
+    ensures all { IfOk result (λ o. (vs : List ℤ) → kinds.AreIntegers limit (texts words.now) vs → o ≡ Some vs) }
 {
     let found = integers_of(alloc, words, limit)?;
     Ok(found)

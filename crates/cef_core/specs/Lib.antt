@@ -1,14 +1,11 @@
-pub mod Sublattices
+-- What a phase is, and the energy of its constitutions.
 pub mod Constitutions
 pub mod Parameters
 pub mod Mixing
 pub mod Magnetism
 pub mod Energies
-pub mod Pure
-pub mod Assemblages
-pub mod Holding
-pub mod Certificates
-pub mod Texts
-pub mod Names
 pub mod Lattices
-pub mod Spelled
+-- Phases of one constitution, which are all that is selected so far.
+pub mod Pure
+-- How counts are kept.
+pub mod Sublattices

@@ -2,6 +2,7 @@
 -- down. The temperature t is in hundredths of a kelvin, theta in µK, moments in millionths, and g in 10^-9.
 use Rattle.std.specs.Prelude.{ℕ, zero, suc, ◌+◌, ◌-◌, ◌*◌, ◌/◌, nat_lt, cond, ℤ, pos, negsuc, ◌-ℤ◌, ◌*ℤ◌}
 use Rattle.std.specs.Int.{int_div_euclid}
+use Rattle.cal_limits.specs.declared.TheConstants.{GAS_CONSTANT}
 use Rattle.cal_math.specs.Logarithm.{log_between}
 
 -- the product of two fractions in units of 10^-9
@@ -63,7 +64,7 @@ g_at t theta p4 = cond (nat_lt (10000 * t) theta) (g_below p4 (theta_over_t t th
 -- R*T*g in µJ, and 0 where theta is 0
 abbrev pub energy_of_g : ℕ → ℕ → ℕ → ℤ
 energy_of_g t zero p4 = pos 0
-energy_of_g t (suc theta) p4 = int_div_euclid (pos (831451 * t) *ℤ g_at t (suc theta) p4) (pos 1000000000)
+energy_of_g t (suc theta) p4 = int_div_euclid (pos (GAS_CONSTANT * t) *ℤ g_at t (suc theta) p4) (pos 1000000000)
 
 -- a sum of Curie temperatures or of moments: one below 0 is that of an antiferromagnet, divided by the factor's magnitude
 abbrev pub moment_of : ℕ → ℤ → ℕ

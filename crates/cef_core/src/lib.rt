@@ -1,22 +1,19 @@
-//! Phases of the compound energy formalism on a lattice, assemblages of their constitutions, and reports.
+//! Phases of the compound energy formalism on a lattice, their constitutions and energies, and trees of boxes.
 #![tactic(auto)]
 
-mod entry;
 mod kind;
-mod name;
+mod lattice;
 mod phase;
-mod report;
 mod site;
 mod system;
 #[cfg(test)]
 mod tests;
 mod tree;
 
-pub use entry::Entry;
+pub use cal_scan::Name;
 pub use kind::Kind;
-pub use name::Name;
+pub use lattice::{LATTICES, is_lattice};
 pub use phase::{MagneticAt, ParamAt, PhaseAt};
-pub use report::Report;
 pub use site::Site;
 pub use system::System;
 pub use tree::{Node, Tree};

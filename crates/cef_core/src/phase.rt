@@ -1,6 +1,6 @@
 use crate::kind::Kind;
-use crate::name::Name;
 use cal_list::Items;
+use cal_scan::Name;
 
 /// A parameter of a phase at a temperature.
 #[derive(Drop)]

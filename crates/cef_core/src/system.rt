@@ -1,6 +1,6 @@
-use crate::name::Name;
 use crate::phase::PhaseAt;
 use cal_list::Items;
+use cal_scan::Name;
 
 /// The elements asked and the phases selected for them, at a temperature and on a lattice.
 #[derive(Drop)]

@@ -3,9 +3,10 @@ use Rattle.std.proofs.Common.{◌≡◌, ℕ, ◌+◌, ◌≤◌, ◌<◌, true,
 use Rattle.std.specs.Prelude.{codes}
 use Rattle.std.specs.List.{concat}
 use Rattle.std.proofs.lemmas.List.{at_drop_more, at_drop_all, append-nil, length-append}
-use Rattle.tdb_scan.specs.Words.{same_word}
-use Rattle.cef_core.specs.Texts.{Word}
-use Rattle.cal_lines.specs.Words.{natural}
+use Rattle.cal_limits.specs.declared.TheConstants.{MOST_COUNT}
+use Rattle.cal_scan.specs.Words.{same_word}
+use Rattle.cal_scan.specs.Lines.{Word}
+use Rattle.cal_lines.specs.Words.{natural_of}
 use Rattle.cal_lines.specs.Kinds.{if_some, with_count}
 use Rattle.eq_text.specs.Kinds.{parts}
 use Rattle.eq_text.proofs.Joined.{concat-append}
@@ -14,7 +15,7 @@ abbrev Counts : Type 0
 Counts = Option (List (List ℕ))
 
 opened : {X : Type 0} (view : X → Word) (done : List (List ℕ)) (part : List ℕ) (xs : List X) (i : ℕ) (d : X) → i < length xs → parts done part (map view (drop i xs))
-    ≡ cond (same_word (view (get_or xs i d)) (codes ":")) (if_some part (parts (done ++ part ∷ []) [] (map view (drop (i + 1) xs)))) (with_count (natural 65535 (view (get_or xs i d))) (λ n. parts done (part ++ n ∷ []) (map view (drop (i + 1) xs))))
+    ≡ cond (same_word (view (get_or xs i d)) (codes ":")) (if_some part (parts (done ++ part ∷ []) [] (map view (drop (i + 1) xs)))) (with_count (natural_of MOST_COUNT (view (get_or xs i d))) (λ n. parts done (part ++ n ∷ []) (map view (drop (i + 1) xs))))
 unfolding parts
 opened view done part xs i d lt = at_drop_more (λ ys. parts done part (map view ys)) xs i d lt
 
@@ -34,11 +35,11 @@ pub counts_cut : {X : Type 0} (view : X → Word) (done : List (List ℕ)) (part
     → parts done part (map view (drop i xs)) ≡ total → parts (done ++ part ∷ []) [] (map view (drop (i + 1) xs)) ≡ total
 counts_cut view done part xs i d lt total colon more so_far = sym (sym so_far ∙ opened view done part xs i d lt ∙ rw (colon, some_if_more part (parts (done ++ part ∷ []) [] (map view (drop (i + 1) xs))) more) refl)
 
-pub counts_none : {X : Type 0} (view : X → Word) (done : List (List ℕ)) (part : List ℕ) (xs : List X) (i : ℕ) (d : X) → i < length xs → (total : Counts) → same_word (view (get_or xs i d)) (codes ":") ≡ false → natural 65535 (view (get_or xs i d)) ≡ None
+pub counts_none : {X : Type 0} (view : X → Word) (done : List (List ℕ)) (part : List ℕ) (xs : List X) (i : ℕ) (d : X) → i < length xs → (total : Counts) → same_word (view (get_or xs i d)) (codes ":") ≡ false → natural_of MOST_COUNT (view (get_or xs i d)) ≡ None
     → parts done part (map view (drop i xs)) ≡ total → None ≡ total
 counts_none view done part xs i d lt total word bad so_far = sym (sym so_far ∙ opened view done part xs i d lt ∙ rw (word, bad) refl)
 
-pub counts_some : {X : Type 0} (view : X → Word) (done : List (List ℕ)) (part : List ℕ) (xs : List X) (i : ℕ) (d : X) (n : ℕ) → i < length xs → (total : Counts) → same_word (view (get_or xs i d)) (codes ":") ≡ false → natural 65535 (view (get_or xs i d)) ≡ Some n
+pub counts_some : {X : Type 0} (view : X → Word) (done : List (List ℕ)) (part : List ℕ) (xs : List X) (i : ℕ) (d : X) (n : ℕ) → i < length xs → (total : Counts) → same_word (view (get_or xs i d)) (codes ":") ≡ false → natural_of MOST_COUNT (view (get_or xs i d)) ≡ Some n
     → parts done part (map view (drop i xs)) ≡ total → parts done (part ++ n ∷ []) (map view (drop (i + 1) xs)) ≡ total
 counts_some view done part xs i d n lt total word good so_far = sym (sym so_far ∙ opened view done part xs i d lt ∙ rw (word, good) refl)
 

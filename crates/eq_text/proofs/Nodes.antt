@@ -3,43 +3,46 @@ use Rattle.std.proofs.Common.{◌≡◌, ℕ, zero, suc, ◌≤◌, ◌<◌, ◌
 use Rattle.std.specs.Prelude.{ℤ, codes}
 use Rattle.std.specs.List.{AllByRecursion}
 use Rattle.std.specs.Fmt.{decimal, signed_decimal}
-use Rattle.tdb_scan.specs.Words.{same_word}
+use Rattle.cal_limits.specs.declared.TheConstants.{MOST_COUNT, MOST_NUMBER}
+use Rattle.cal_scan.specs.Words.{same_word}
 use Rattle.cef_core.specs.declared.tree.Node.{Node}
 use Rattle.cef_core.specs.declared.tree.Node.TheVariants.{Split, Leaf, Empty}
-use Rattle.cef_core.specs.Spelled.{IsNumber, Spans}
-use Rattle.cef_core.specs.Spelled.Spans.{leaf, none, cut}
-use Rattle.cef_core.specs.Texts.{Word, node_words}
+use Rattle.cef_report.specs.Spelled.{IsNumber, Spans}
+use Rattle.cef_report.specs.Spelled.Spans.{leaf, none, cut}
+use Rattle.cal_scan.specs.Lines.{Word}
+use Rattle.cef_report.specs.Texts.{node_words}
 use Rattle.cal_lines.specs.Reading.{Runs}
-use Rattle.cal_lines.specs.Words.{natural}
-use Rattle.cal_lines.specs.Kinds.{integers}
+use Rattle.cal_lines.specs.Words.{natural_of}
+use Rattle.cal_lines.specs.Kinds.{all_integers}
 use Rattle.cal_lines.proofs.Lines.{IsWords, Kind}
 use Rattle.cal_lines.proofs.Numbers.{natural-found, natural-again, decimal_word}
-use Rattle.cal_lines.proofs.Sorts.{same-found, same-again, cond_found, words_from, plain_from, integers-found, integers-again, integers_plain}
+use Rattle.cal_scan.proofs.NameLists.{same-found, same-again, cond_found}
+use Rattle.cal_lines.proofs.Sorts.{words_from, plain_from, integers-found, integers-again, integers_plain}
 use Rattle.eq_text.specs.Kinds.{leaf_made, split_made, split_of, node_of}
 use Rattle.eq_text.specs.Parsing.{node_next}
 
 abbrev pub IsNode : Node → Type 0
-IsNode (Split place at) = (place ≤ 65535) × (at ≤ 65535)
+IsNode (Split place at) = (place ≤ MOST_COUNT) × (at ≤ MOST_COUNT)
 IsNode (Leaf vs) = (0 < length vs) × AllByRecursion IsNumber vs
 IsNode Empty = Unit {0}
 
-split-found : (p c : Word) (o u : Option ℕ) (n : Node) → natural 65535 p ≡ o → natural 65535 c ≡ u → split_made o u ≡ Some n → (codes "S" ∷ p ∷ c ∷ [] ≡ node_words n) × IsNode n
+split-found : (p c : Word) (o u : Option ℕ) (n : Node) → natural_of MOST_COUNT p ≡ o → natural_of MOST_COUNT c ≡ u → split_made o u ≡ Some n → (codes "S" ∷ p ∷ c ∷ [] ≡ node_words n) × IsNode n
 split-found p c None u n ep ec e = absurd cc
 split-found p c (Some a) None n ep ec e = absurd cc
 split-found p c (Some a) (Some b) n ep ec e =
     let same : Split a b ≡ n = cc in
-    let f = natural-found 65535 a p (omega arith) ep in
-    let g = natural-found 65535 b c (omega arith) ec in
+    let f = natural-found MOST_COUNT a p (omega arith) ep in
+    let g = natural-found MOST_COUNT b c (omega arith) ec in
     subst (λ (n : Node). (codes "S" ∷ p ∷ c ∷ [] ≡ node_words n) × IsNode n) same (rw (f.0, g.0) refl, (f.1, g.1))
 
-wide : 2 ^ 120 < 10 ^ 64
+wide : MOST_NUMBER < 10 ^ 64
 wide = omega arith
 
-leaf-found : (v : Word) (ws : List Word) (o : Option (List ℤ)) (n : Node) → integers (2 ^ 120) (v ∷ ws) ≡ o → leaf_made o ≡ Some n → (codes "L" ∷ v ∷ ws ≡ node_words n) × IsNode n
+leaf-found : (v : Word) (ws : List Word) (o : Option (List ℤ)) (n : Node) → all_integers MOST_NUMBER (v ∷ ws) ≡ o → leaf_made o ≡ Some n → (codes "L" ∷ v ∷ ws ≡ node_words n) × IsNode n
 leaf-found v ws None n is e = absurd cc
 leaf-found v ws (Some vs) n is e =
     let same : Leaf vs ≡ n = cc in
-    let f = integers-found (2 ^ 120) wide (v ∷ ws) vs is in
+    let f = integers-found MOST_NUMBER wide (v ∷ ws) vs is in
     subst (λ (n : Node). (codes "L" ∷ v ∷ ws ≡ node_words n) × IsNode n) same (ap (λ (t : List Word). codes "L" ∷ t) f.0, (some vs f.0, f.1))
   where
     some : (vs : List ℤ) → v ∷ ws ≡ map signed_decimal vs → 0 < length vs
@@ -58,14 +61,14 @@ node-found (w ∷ []) n e =
     let same : Empty ≡ n = cc in
     subst (λ (n : Node). (w ∷ [] ≡ node_words n) × IsNode n) same (ap (λ (v : Word). v ∷ []) (same-found w (codes "E") p.0), tt)
 node-found (w ∷ v ∷ ws) n e =
-    elim (cond_either (same_word w (codes "L")) (leaf_made (integers (2 ^ 120) (v ∷ ws))) (cond (same_word w (codes "S")) (split_of v ws) None) n e) [
-      | inl h ↦ let f = leaf-found v ws (integers (2 ^ 120) (v ∷ ws)) n refl h.1 in (ap (λ (t : Word). t ∷ v ∷ ws) (same-found w (codes "L") h.0) ∙ f.0, f.1)
+    elim (cond_either (same_word w (codes "L")) (leaf_made (all_integers MOST_NUMBER (v ∷ ws))) (cond (same_word w (codes "S")) (split_of v ws) None) n e) [
+      | inl h ↦ let f = leaf-found v ws (all_integers MOST_NUMBER (v ∷ ws)) n refl h.1 in (ap (λ (t : Word). t ∷ v ∷ ws) (same-found w (codes "L") h.0) ∙ f.0, f.1)
       | inr h ↦ let p = cond_found (same_word w (codes "S")) (split_of v ws) n h.1 in by_rest w v ws n (same-found w (codes "S") p.0) p.1
     ]
   where
     by_rest : (w v : Word) (ws : List Word) (n : Node) → w ≡ codes "S" → split_of v ws ≡ Some n → (w ∷ v ∷ ws ≡ node_words n) × IsNode n
     by_rest w v [] n is e = absurd cc
-    by_rest w v (c ∷ []) n is e = let f = split-found v c (natural 65535 v) (natural 65535 c) n refl refl e in (ap (λ (t : Word). t ∷ v ∷ c ∷ []) is ∙ f.0, f.1)
+    by_rest w v (c ∷ []) n is e = let f = split-found v c (natural_of MOST_COUNT v) (natural_of MOST_COUNT c) n refl refl e in (ap (λ (t : Word). t ∷ v ∷ c ∷ []) is ∙ f.0, f.1)
     by_rest w v (c ∷ x ∷ ws) n is e = absurd cc
 
 no_leaf : same_word (codes "S") (codes "L") ≡ false
@@ -74,18 +77,18 @@ no_leaf = refl
 
 node-again : (n : Node) → IsNode n → node_of (node_words n) ≡ Some n
 unfolding node_of
-node-again (Split p c) fits = rw (no_leaf, same-again (codes "S"), natural-again 65535 p (omega (arith, fits.0)) fits.0, natural-again 65535 c (omega (arith, fits.1)) fits.1) refl
+node-again (Split p c) fits = rw (no_leaf, same-again (codes "S"), natural-again MOST_COUNT p (omega (arith, fits.0)) fits.0, natural-again MOST_COUNT c (omega (arith, fits.1)) fits.1) refl
 node-again (Leaf []) fits = absurd (omega (arith, fits.0))
-node-again (Leaf (v ∷ vs)) fits = rw (same-again (codes "L")) (ap leaf_made (integers-again (2 ^ 120) wide (v ∷ vs) fits.1))
+node-again (Leaf (v ∷ vs)) fits = rw (same-again (codes "L")) (ap leaf_made (integers-again MOST_NUMBER wide (v ∷ vs) fits.1))
 node-again Empty fits = rw (same-again (codes "E")) refl
 
 node-plain : (n : Node) → IsNode n → IsWords (node_words n)
 node-plain (Split p c) fits = words_from (codes "S") (decimal p ∷ decimal c ∷ []) (plain_from (codes "S") refl) (decimal_word p (omega (arith, fits.0)), (decimal_word c (omega (arith, fits.1)), tt))
-node-plain (Leaf vs) fits = words_from (codes "L") (map signed_decimal vs) (plain_from (codes "L") refl) (integers_plain (2 ^ 120) wide vs fits.1)
+node-plain (Leaf vs) fits = words_from (codes "L") (map signed_decimal vs) (plain_from (codes "L") refl) (integers_plain MOST_NUMBER wide vs fits.1)
 node-plain Empty fits = plain_from (codes "E") refl
 
 pub node_kind : Kind node_words IsNode node_of
-node_kind = record { found = node-found; again = node-again; plain = node-plain; some = (Empty, tt) }
+node_kind = record { found = node-found; again = node-again; plain = node-plain; example = (Empty, tt) }
 
 -- ---- the nodes of so many open subtrees, and boxes one behind another
 

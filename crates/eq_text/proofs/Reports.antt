@@ -1,17 +1,19 @@
 -- The reader of reports is exact.
-use Rattle.std.proofs.Common.{◌≡◌, ℕ, zero, suc, ◌≤◌, ◌^◌, List, [], ◌∷◌, ◌++◌, length, Some, None, Ok, Err, refl, ap, arith}
+use Rattle.std.proofs.Common.{◌≡◌, ℕ, zero, suc, ◌≤◌, List, [], ◌∷◌, ◌++◌, length, Some, None, Ok, Err, refl, ap, arith}
 use Rattle.std.specs.Prelude.{ℤ, codes, IfOk, Result}
 use Rattle.std.specs.List.{AllByRecursion}
-use Rattle.cef_core.specs.declared.entry.Entry.{Entry}
-use Rattle.cef_core.specs.declared.report.Report.{Report}
-use Rattle.cef_core.specs.Names.{AreNames}
-use Rattle.cef_core.specs.Spelled.{IsNumber, AreNumbers, IsSpelledEntry, IsSpelled}
-use Rattle.cef_core.specs.Texts.{Word, Line, line, number_words, entry_words, tree_lines, lines, text}
+use Rattle.cef_report.specs.declared.entry.Entry.{Entry}
+use Rattle.cef_report.specs.declared.report.Report.{Report}
+use Rattle.cal_limits.specs.declared.TheConstants.{MOST_ELEMENTS, MOST_ENTRIES, MOST_NUMBER, MOST_TOLERANCE, MOST_PRINTED_GAP}
+use Rattle.cal_scan.specs.Names.{AreNames, AreNamesWithin}
+use Rattle.cef_report.specs.Spelled.{IsNumber, AreNumbers, IsSpelledEntry, IsSpelled}
+use Rattle.cal_scan.specs.Lines.{Word, Line, line}
+use Rattle.cef_report.specs.Texts.{number_words, entry_words, head_lines, entry_lines, sum_lines, tree_lines, end_lines, lines, text}
 use Rattle.cal_lines.specs.declared.fault.TextFault.{TextFault}
 use Rattle.cal_lines.specs.declared.fault.TextFault.TheVariants as faults
 use Rattle.cal_lines.specs.Reading.{both, pair, of_line, many, Runs, Gives, OnLine, lines_of}
 use Rattle.cal_lines.specs.Choosing.{each}
-use Rattle.cal_lines.specs.Kinds.{names_of, names_words, AreNamesWithin}
+use Rattle.cal_lines.specs.Kinds.{names_after, names_words}
 use Rattle.cal_lines.proofs.Algebra.{Exact, ExactWhole, exact_both, exact_pair, exact_whole}
 use Rattle.cal_lines.proofs.Lines.{spelled, exact_line, exact_many}
 use Rattle.cal_lines.proofs.Sorts.{names_kind, plain_from}
@@ -30,7 +32,7 @@ one_line words a = line (words a) ∷ []
 -- ---- entries
 
 abbrev AreEntries : List Word → List Entry → Type 0
-AreEntries phases entries = (length entries ≤ 32) × AllByRecursion (IsSpelledEntry (length phases)) entries
+AreEntries phases entries = (length entries ≤ MOST_ENTRIES) × AllByRecursion (IsSpelledEntry (length phases)) entries
 
 abbrev entries_lines : List Word → List Entry → List Line
 entries_lines phases entries = line (natural_words (codes "entries") (length entries)) ∷ spelled (entry_words phases) entries
@@ -52,14 +54,14 @@ exact_entries : (phases : List Word) → AreNames phases → Exact (entries_line
 unfolding entries_at
 exact_entries phases names =
     let kind = entry_kind phases names in
-    exact_both (λ n entries. entries) (one_line (natural_words (codes "entries"))) (λ n. n ≤ 32) (of_line count_of) (λ n entries. spelled (entry_words phases) entries) (EntryRuns phases) (λ n at. many entries_next (entry_of phases) n at.0 at.1) (entries_lines phases) (AreEntries phases)
+    exact_both (λ n entries. entries) (one_line (natural_words (codes "entries"))) (λ n. n ≤ MOST_ENTRIES) (of_line count_of) (λ n entries. spelled (entry_words phases) entries) (EntryRuns phases) (λ n at. many entries_next (entry_of phases) n at.0 at.1) (entries_lines phases) (AreEntries phases)
     (record {
       parts = λ entries fits. (length entries, entries, fits.0, runs_from phases entries fits.1, refl);
       fits = λ n entries small runs. let r = all_from phases n entries runs in (omega (arith, r.0, small), r.1);
       spells = λ n entries small runs. ap (λ (k : ℕ). line (natural_words (codes "entries") k) ∷ spelled (entry_words phases) entries) (all_from phases n entries runs).0;
     })
-    (exact_line (natural_words (codes "entries")) (λ n. n ≤ 32) count_of count_kind)
-    (λ n small. exact_many entries_next (entry_words phases) (IsSpelledEntry (length phases)) (entry_of phases) kind kind.some.0 kind.some.1 (λ open_lines. refl) n)
+    (exact_line (natural_words (codes "entries")) (λ n. n ≤ MOST_ENTRIES) count_of count_kind)
+    (λ n small. exact_many entries_next (entry_words phases) (IsSpelledEntry (length phases)) (entry_of phases) kind kind.example.0 kind.example.1 (λ open_lines. refl) n)
 
 -- ---- the parts, from the last to the first
 
@@ -77,24 +79,24 @@ abbrev gap_lines : ℤ × List ℤ → List Line
 gap_lines x = one_line (integer_words (codes "gap")) x.0 ++ one_line (number_words (codes "potentials")) x.1
 
 abbrev IsGap : ℕ → ℤ × List ℤ → Type 0
-IsGap n x = IsSize (2 ^ 110) x.0 × AreNumbers n x.1
+IsGap n x = IsSize MOST_PRINTED_GAP x.0 × AreNumbers n x.1
 
 abbrev bounds_lines : Bounds → List Line
 bounds_lines b = one_line (integer_words (codes "tolerance")) b.0 ++ gap_lines b.1
 
 abbrev AreBounds : ℕ → Bounds → Type 0
-AreBounds n b = IsSize (2 ^ 60) b.0 × IsGap n b.1
+AreBounds n b = IsSize MOST_TOLERANCE b.0 × IsGap n b.1
 
 exact_bounds : (n : ℕ) → Exact bounds_lines (AreBounds n) (bounds_at n)
 unfolding bounds_at
 exact_bounds n =
-    let potentials = of_line (integers_after (codes "potentials") n (2 ^ 120)) in
-    let gap = of_line (size_after (codes "gap") (2 ^ 110)) in
-    exact_pair (one_line (integer_words (codes "tolerance"))) (IsSize (2 ^ 60)) (of_line (size_after (codes "tolerance") (2 ^ 60))) (λ tolerance. gap_lines) (λ tolerance. IsGap n) (λ tolerance. both pair gap (λ g. potentials))
-    (exact_line (integer_words (codes "tolerance")) (IsSize (2 ^ 60)) (size_after (codes "tolerance") (2 ^ 60)) (size_kind (codes "tolerance") (2 ^ 60) (plain_from (codes "tolerance") refl) (omega arith)))
-    (λ tolerance fits. exact_pair (one_line (integer_words (codes "gap"))) (IsSize (2 ^ 110)) gap (λ g. one_line (number_words (codes "potentials"))) (λ g. AreNumbers n) (λ g. potentials)
-    (exact_line (integer_words (codes "gap")) (IsSize (2 ^ 110)) (size_after (codes "gap") (2 ^ 110)) (size_kind (codes "gap") (2 ^ 110) (plain_from (codes "gap") refl) (omega arith)))
-    (λ g fits. exact_line (number_words (codes "potentials")) (AreNumbers n) (integers_after (codes "potentials") n (2 ^ 120)) (numbers_kind (codes "potentials") n (plain_from (codes "potentials") refl))))
+    let potentials = of_line (integers_after (codes "potentials") n MOST_NUMBER) in
+    let gap = of_line (size_after (codes "gap") MOST_PRINTED_GAP) in
+    exact_pair (one_line (integer_words (codes "tolerance"))) (IsSize MOST_TOLERANCE) (of_line (size_after (codes "tolerance") MOST_TOLERANCE)) (λ tolerance. gap_lines) (λ tolerance. IsGap n) (λ tolerance. both pair gap (λ g. potentials))
+    (exact_line (integer_words (codes "tolerance")) (IsSize MOST_TOLERANCE) (size_after (codes "tolerance") MOST_TOLERANCE) (size_kind (codes "tolerance") MOST_TOLERANCE (plain_from (codes "tolerance") refl) (omega arith)))
+    (λ tolerance fits. exact_pair (one_line (integer_words (codes "gap"))) (IsSize MOST_PRINTED_GAP) gap (λ g. one_line (number_words (codes "potentials"))) (λ g. AreNumbers n) (λ g. potentials)
+    (exact_line (integer_words (codes "gap")) (IsSize MOST_PRINTED_GAP) (size_after (codes "gap") MOST_PRINTED_GAP) (size_kind (codes "gap") MOST_PRINTED_GAP (plain_from (codes "gap") refl) (omega arith)))
+    (λ g fits. exact_line (number_words (codes "potentials")) (AreNumbers n) (integers_after (codes "potentials") n MOST_NUMBER) (numbers_kind (codes "potentials") n (plain_from (codes "potentials") refl))))
 
 abbrev energy_lines : ℤ × Bounds → List Line
 energy_lines x = one_line (integer_words (codes "energy")) x.0 ++ bounds_lines x.1
@@ -111,11 +113,11 @@ AreSums n s = AreNumbers n s.0 × IsEnergy n s.1
 exact_sums : (n : ℕ) → Exact sums_lines (AreSums n) (sums_at n)
 unfolding sums_at
 exact_sums n =
-    let energy = of_line (integer_after (codes "energy") (2 ^ 120)) in
-    exact_pair (one_line (number_words (codes "total"))) (AreNumbers n) (of_line (integers_after (codes "total") n (2 ^ 120))) (λ totals. energy_lines) (λ totals. IsEnergy n) (λ totals. both pair energy (λ e. bounds_at n))
-    (exact_line (number_words (codes "total")) (AreNumbers n) (integers_after (codes "total") n (2 ^ 120)) (numbers_kind (codes "total") n (plain_from (codes "total") refl)))
+    let energy = of_line (integer_after (codes "energy") MOST_NUMBER) in
+    exact_pair (one_line (number_words (codes "total"))) (AreNumbers n) (of_line (integers_after (codes "total") n MOST_NUMBER)) (λ totals. energy_lines) (λ totals. IsEnergy n) (λ totals. both pair energy (λ e. bounds_at n))
+    (exact_line (number_words (codes "total")) (AreNumbers n) (integers_after (codes "total") n MOST_NUMBER) (numbers_kind (codes "total") n (plain_from (codes "total") refl)))
     (λ totals fits. exact_pair (one_line (integer_words (codes "energy"))) IsNumber energy (λ e. bounds_lines) (λ e. AreBounds n) (λ e. bounds_at n)
-    (exact_line (integer_words (codes "energy")) IsNumber (integer_after (codes "energy") (2 ^ 120)) (integer_kind (codes "energy") (2 ^ 120) (plain_from (codes "energy") refl) (omega arith)))
+    (exact_line (integer_words (codes "energy")) IsNumber (integer_after (codes "energy") MOST_NUMBER) (integer_kind (codes "energy") MOST_NUMBER (plain_from (codes "energy") refl) (omega arith)))
     (λ e fits. exact_bounds n))
 
 abbrev summed_lines : List Word → Sums × Closing → List Line
@@ -153,20 +155,20 @@ ArePhases n p = AreNamesWithin None p.0 × IsBody n p.0 p.1
 
 exact_phases : (n : ℕ) → Exact phases_lines (ArePhases n) (phases_at n)
 unfolding phases_at
-exact_phases n = exact_pair (one_line (names_words (codes "phases"))) (AreNamesWithin None) (of_line (names_of (codes "phases") None)) body_lines (IsBody n) (λ phases. body_at n phases)
-    (exact_line (names_words (codes "phases")) (AreNamesWithin None) (names_of (codes "phases") None) (names_kind (codes "phases") None (plain_from (codes "phases") refl) tt))
+exact_phases n = exact_pair (one_line (names_words (codes "phases"))) (AreNamesWithin None) (of_line (names_after (codes "phases") None)) body_lines (IsBody n) (λ phases. body_at n phases)
+    (exact_line (names_words (codes "phases")) (AreNamesWithin None) (names_after (codes "phases") None) (names_kind (codes "phases") None (plain_from (codes "phases") refl) tt))
     (λ phases names. exact_body n phases names.0)
 
 abbrev named_lines : Named → List Line
 named_lines e = one_line (names_words (codes "elements")) e.0 ++ phases_lines e.1
 
 abbrev IsNamed : Named → Type 0
-IsNamed e = AreNamesWithin (Some 8) e.0 × ArePhases (length e.0) e.1
+IsNamed e = AreNamesWithin (Some MOST_ELEMENTS) e.0 × ArePhases (length e.0) e.1
 
 exact_named : Exact named_lines IsNamed named_at
 unfolding named_at
-exact_named = exact_pair (one_line (names_words (codes "elements"))) (AreNamesWithin (Some 8)) (of_line (names_of (codes "elements") (Some 8))) (λ e. phases_lines) (λ e. ArePhases (length e)) (λ e. phases_at (length e))
-    (exact_line (names_words (codes "elements")) (AreNamesWithin (Some 8)) (names_of (codes "elements") (Some 8)) (names_kind (codes "elements") (Some 8) (plain_from (codes "elements") refl) (omega arith)))
+exact_named = exact_pair (one_line (names_words (codes "elements"))) (AreNamesWithin (Some MOST_ELEMENTS)) (of_line (names_after (codes "elements") (Some MOST_ELEMENTS))) (λ e. phases_lines) (λ e. ArePhases (length e)) (λ e. phases_at (length e))
+    (exact_line (names_words (codes "elements")) (AreNamesWithin (Some MOST_ELEMENTS)) (names_after (codes "elements") (Some MOST_ELEMENTS)) (names_kind (codes "elements") (Some MOST_ELEMENTS) (plain_from (codes "elements") refl) (omega arith)))
     (λ e names. exact_phases (length e))
 
 abbrev lattice_lines : ℕ × Named → List Line
@@ -271,6 +273,7 @@ is_whole r s = (
 )
 
 seen : Seen fields report_from lines IsSpelled whole_lines IsWhole
+unfolding head_lines entry_lines sum_lines end_lines
 seen = record { view_back = λ w. refl; back_view = λ r. refl; spells = λ r. refl; to_view = is_whole; from_view = is_spelled }
 
 -- ---- the three clauses

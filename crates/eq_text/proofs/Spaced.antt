@@ -4,7 +4,8 @@ use Rattle.std.specs.Prelude.{ℤ, codes, slice_index_or}
 use Rattle.std.specs.List.{flat_map, join_with_byte}
 use Rattle.std.specs.Fmt.{decimal, signed_decimal}
 use Rattle.std.proofs.lemmas.List.{append-nil, take_all}
-use Rattle.cef_core.specs.Texts.{Word, line, number_words, counts_words, more_counts}
+use Rattle.cal_scan.specs.Lines.{Word, line}
+use Rattle.cef_report.specs.Texts.{number_words, counts_words, more_counts}
 use Rattle.eq_text.specs.Spacing.{spaced, spelled, sublattice_words}
 
 joined_words : (w : Word) (ws : List Word) → join_with_byte 32 (w ∷ ws) ≡ w ++ spelled ws

@@ -2,11 +2,12 @@
 use Rattle.std.proofs.Common.{◌≡◌, ℕ, suc, ◌+◌, List, [], ◌∷◌, ◌++◌, length, map, Ok, true, refl, ap, subst, arith}
 use Rattle.std.specs.Prelude.{codes}
 use Rattle.std.specs.List.{AllByRecursion}
-use Rattle.tdb_scan.specs.Words.{is_name}
+use Rattle.cal_scan.specs.Words.{is_name}
 use Rattle.cef_core.specs.declared.tree.Node.TheVariants.{Empty}
 use Rattle.cef_core.specs.declared.tree.Tree.{Tree}
-use Rattle.cef_core.specs.Spelled.{IsSpelledTree}
-use Rattle.cef_core.specs.Texts.{Word, Line, line, node_words, tree_lines}
+use Rattle.cef_report.specs.Spelled.{IsSpelledTree}
+use Rattle.cal_scan.specs.Lines.{Word, Line, line}
+use Rattle.cef_report.specs.Texts.{node_words, tree_lines}
 use Rattle.cal_lines.specs.Reading.{Lines, of_line, Runs}
 use Rattle.cal_lines.specs.Choosing.{each}
 use Rattle.cal_lines.proofs.Algebra.{Exact, Took, exact_both, ok_is}

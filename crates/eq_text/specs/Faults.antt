@@ -1,8 +1,8 @@
 -- The line at which a text is no longer a report's.
 use Rattle.std.specs.Prelude.{◌≡◌, ℕ, List, Result, Ok, Err}
-use Rattle.cef_core.specs.declared.report.Report.{Report}
-use Rattle.cef_core.specs.Texts.{lines}
-use Rattle.cef_core.specs.Spelled.{IsSpelled}
+use Rattle.cef_report.specs.declared.report.Report.{Report}
+use Rattle.cef_report.specs.Texts.{lines}
+use Rattle.cef_report.specs.Spelled.{IsSpelled}
 use Rattle.cal_lines.specs.declared.fault.TextFault.{TextFault}
 use Rattle.cal_lines.specs.declared.fault.TextFault.TheVariants as faults
 use Rattle.cal_lines.specs.Reading.{Stops, lines_of}

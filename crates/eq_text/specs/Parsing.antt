@@ -1,14 +1,15 @@
 -- Reading a report line by line.
-use Rattle.std.specs.Prelude.{ℕ, suc, ◌^◌, List, length, Some, None, Result, ℤ, codes}
-use Rattle.cef_core.specs.Texts.{Word}
-use Rattle.cef_core.specs.declared.entry.Entry.{Entry}
-use Rattle.cef_core.specs.declared.report.Report.{Report}
+use Rattle.std.specs.Prelude.{ℕ, suc, List, length, Some, None, Result, ℤ, codes}
+use Rattle.cal_limits.specs.declared.TheConstants.{MOST_ELEMENTS, MOST_NUMBER, MOST_TOLERANCE, MOST_PRINTED_GAP}
+use Rattle.cal_scan.specs.Lines.{Word}
+use Rattle.cef_report.specs.declared.entry.Entry.{Entry}
+use Rattle.cef_report.specs.declared.report.Report.{Report}
 use Rattle.cef_core.specs.declared.tree.Node.{Node}
 use Rattle.cef_core.specs.declared.tree.Node.TheVariants.{Split, Leaf, Empty}
 use Rattle.cef_core.specs.declared.tree.Tree.{Tree}
 use Rattle.cal_lines.specs.Reading.{Lines, Read, ◌>>=◌, both, of_line, many, pair, only}
 use Rattle.cal_lines.specs.Choosing.{each}
-use Rattle.cal_lines.specs.Kinds.{names_of}
+use Rattle.cal_lines.specs.Kinds.{names_after}
 use Rattle.eq_text.specs.Kinds.{two_words_of, end_of, temperature_of, lattice_of, count_of, integer_after, size_after, integers_after, asked_of, entry_of, node_of}
 
 -- ---- entries
@@ -17,8 +18,11 @@ use Rattle.eq_text.specs.Kinds.{two_words_of, end_of, temperature_of, lattice_of
 abbrev pub entries_next : Entry → ℕ → ℕ
 entries_next entry open_lines = open_lines
 
+abbrev pub entry_lines_at : List Word → ℕ → Read (List Entry)
+entry_lines_at phases n at = many entries_next (entry_of phases) n at.0 at.1
+
 unfoldable pub entries_at : List Word → Read (List Entry)
-entries_at phases = both (λ n entries. entries) (of_line count_of) (λ n at. many entries_next (entry_of phases) n at.0 at.1)
+entries_at phases = both (λ n entries. entries) (of_line count_of) (entry_lines_at phases)
 
 -- ---- trees
 
@@ -63,21 +67,21 @@ closing_at phases = both pair (each tree_at phases) (λ trees. of_line end_of)
 
 -- tolerance, gap and potentials
 unfoldable pub bounds_at : ℕ → Read Bounds
-bounds_at n = both pair (of_line (size_after (codes "tolerance") (2 ^ 60))) (λ tolerance. both pair (of_line (size_after (codes "gap") (2 ^ 110))) (λ gap. of_line (integers_after (codes "potentials") n (2 ^ 120))))
+bounds_at n = both pair (of_line (size_after (codes "tolerance") MOST_TOLERANCE)) (λ tolerance. both pair (of_line (size_after (codes "gap") MOST_PRINTED_GAP)) (λ gap. of_line (integers_after (codes "potentials") n MOST_NUMBER)))
 
 -- total and energy, and these
 unfoldable pub sums_at : ℕ → Read Sums
-sums_at n = both pair (of_line (integers_after (codes "total") n (2 ^ 120))) (λ totals. both pair (of_line (integer_after (codes "energy") (2 ^ 120))) (λ energy. bounds_at n))
+sums_at n = both pair (of_line (integers_after (codes "total") n MOST_NUMBER)) (λ totals. both pair (of_line (integer_after (codes "energy") MOST_NUMBER)) (λ energy. bounds_at n))
 
 -- what is about so many elements and these phases
 unfoldable pub body_at : ℕ → List Word → Read Body
 body_at n phases = both pair (of_line (asked_of n)) (λ asked. both pair (entries_at phases) (λ entries. both pair (sums_at n) (λ sums. closing_at phases)))
 
 unfoldable pub phases_at : ℕ → Read (List Word × Body)
-phases_at n = both pair (of_line (names_of (codes "phases") None)) (λ phases. body_at n phases)
+phases_at n = both pair (of_line (names_after (codes "phases") None)) (λ phases. body_at n phases)
 
 unfoldable pub named_at : Read Named
-named_at = both pair (of_line (names_of (codes "elements") (Some 8))) (λ elements. phases_at (length elements))
+named_at = both pair (of_line (names_after (codes "elements") (Some MOST_ELEMENTS))) (λ elements. phases_at (length elements))
 
 unfoldable pub report_at : Read Whole
 report_at = both pair (of_line (two_words_of (codes "equilibrium") (codes "1"))) (λ u. both pair (of_line temperature_of) (λ t. both pair (of_line lattice_of) (λ lattice. named_at)))

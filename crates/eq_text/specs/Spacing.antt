@@ -2,7 +2,7 @@
 use Rattle.std.specs.Prelude.{ℕ, zero, suc, List, [], ◌∷◌, map, codes, slice_index_or}
 use Rattle.std.specs.List.{flat_map}
 use Rattle.std.specs.Fmt.{decimal}
-use Rattle.cef_core.specs.Texts.{Word}
+use Rattle.cal_scan.specs.Lines.{Word}
 
 abbrev pub spaced : Word → List ℕ
 spaced word = 32 ∷ word

@@ -1,35 +1,38 @@
 //! The entries of the assemblage.
 
-ghost use Rattle.std.specs.Prelude.{◌≡◌, ◌<◌, IfOk, map, length, [], Some};
+ghost use Rattle.std.specs.Prelude.{◌≡◌, ◌+◌, ◌<◌, IfOk, length, [], Some};
+ghost use Rattle.cal_scan.specs.Lines.{texts};
 ghost use Rattle.std.specs.List.{concat};
-ghost use Rattle.cal_lines.specs.Places.{place};
-ghost use Rattle.cal_lines.specs.Reading.{Gives, of_line, many};
-ghost use Rattle.eq_text.specs.Kinds.{parts, only_if, is_small, site_of, is_positive, amount_of, place_of, entry_of, count_of};
-ghost use Rattle.eq_text.specs.Parsing.{entries_next, entries_at};
+ghost use Rattle.cal_lines.specs.Places.{ReadsAt};
+ghost use Rattle.cal_lines.specs.Reading.{of_line};
+ghost use Rattle.eq_text.specs.Kinds as kinds;
+ghost use Rattle.eq_text.specs.Parsing.{entry_lines_at, entries_at};
 
-use crate::read::numbers::natural;
-use cal_lines::{Place, TextFault, integer_of, natural_of, words_at};
+use crate::read::numbers::natural_after;
+use cal_limits::{MOST_ASKED, MOST_COUNT, MOST_ENTRIES, MOST_SITES, MOST_SUBLATTICES};
+use cal_lines::{Place, TextFault, integer_of, natural_of, read_line};
 use cal_list::Items;
-use cef_core::{Entry, Name, Site};
+use cal_scan::is_word;
+use cef_core::{Name, Site};
+use cef_report::Entry;
 use std::alloc::{AllocError, Global};
-use tdb_scan::is_word;
 
 /// Sublattices with so many counts, if these are not too many.
 fn if_small(site: Site, counts: usize) -> Option<Site>
     requires { counts ≡ length (concat site) }
-    ensures { result ≡ only_if is_small (Some site) }
+    ensures { result ≡ kinds.only_if kinds.is_small (Some site) }
 {
-    if site.sublattices() < 11 && counts < 91 {
+    if site.sublattices() <= MOST_SUBLATTICES && counts <= MOST_SITES {
         Some(site)
     } else {
         None
     }
 }
 
-/// The counts of 1 to 10 sublattices with the word `:` between them, at most 90 in all.
+/// The counts of sublattices with the word `:` between them, within their limits.
 fn sublattices(alloc: Global, words: &[&[u8]]) -> Result<Option<Site>, AllocError>
-    requires { length words.now < 100 }
-    ensures { IfOk result (λ o. o ≡ only_if is_small (parts [] [] (map (λ w. w.now) words.now))) }
+    requires { length words.now < MOST_SITES + MOST_SUBLATTICES }
+    ensures { IfOk result (λ o. o ≡ kinds.only_if kinds.is_small (kinds.parts [] [] (texts words.now))) }
 {
     let mut site = Site::new(alloc);
     let mut part: Items<u16> = Items::new(alloc);
@@ -42,10 +45,10 @@ fn sublattices(alloc: Global, words: &[&[u8]]) -> Result<Option<Site>, AllocErro
             site = site.with_sublattice(part.as_slice())?;
             part = Items::new(alloc);
         } else {
-            match natural_of(*word, 65535) {
-                None => return Ok(None),
-                Some(count) => part.push(count as u16)?,
-            }
+            let Some(count) = natural_of(*word, u128::from(MOST_COUNT)) else {
+                return Ok(None);
+            };
+            part.push(count as u16)?;
             counts += 1;
         }
     }
@@ -57,10 +60,10 @@ fn sublattices(alloc: Global, words: &[&[u8]]) -> Result<Option<Site>, AllocErro
 }
 
 #[tactic(auto, unfolding(crate::specs::Kinds::site_of))]
-fn site(alloc: Global, words: &[&[u8]]) -> Result<Option<Site>, AllocError>
-    ensures { IfOk result (λ o. o ≡ site_of (map (λ w. w.now) words.now)) }
+fn site_of(alloc: Global, words: &[&[u8]]) -> Result<Option<Site>, AllocError>
+    ensures { IfOk result (λ o. o ≡ kinds.site_of (texts words.now)) }
 {
-    if words.len() >= 100 {
+    if words.len() >= MOST_SITES + MOST_SUBLATTICES {
         return Ok(None);
     }
     let found = sublattices(alloc, words)?;
@@ -68,86 +71,76 @@ fn site(alloc: Global, words: &[&[u8]]) -> Result<Option<Site>, AllocError>
 }
 
 fn is_amount(value: i128) -> bool
-    ensures { result ≡ is_positive value }
+    ensures { result ≡ kinds.is_positive value }
 {
     value > 0
 }
 
 #[tactic(auto, unfolding(crate::specs::Kinds::amount_of))]
-fn amount(word: &[u8]) -> Option<i128>
-    ensures { result ≡ amount_of word.now }
+fn amount_of(word: &[u8]) -> Option<i128>
+    ensures { result ≡ kinds.amount_of word.now }
 {
-    let value = integer_of(word, 1 << 50)?;
+    let value = integer_of(word, u128::from(MOST_ASKED))?;
     if is_amount(value) { Some(value) } else { None }
 }
 
 #[tactic(auto, unfolding(crate::specs::Kinds::place_of))]
-fn place_in(word: &[u8], phases: &[Name]) -> Option<usize>
-    ensures { result ≡ place_of word.now phases.now }
+fn place_of(word: &[u8], phases: &[Name]) -> Option<usize>
+    ensures { result ≡ kinds.place_of word.now phases.now }
 {
     phases.iter().position(|phase| is_word(phase.bytes(), word))
 }
 
 #[tactic(auto, unfolding(crate::specs::Kinds::entry_of))]
-fn entry(alloc: Global, phases: &[Name], words: &[&[u8]]) -> Result<Option<Entry>, AllocError>
-    ensures { IfOk result (λ o. o ≡ entry_of phases.now (map (λ w. w.now) words.now)) }
+fn entry_of(alloc: Global, phases: &[Name], words: &[&[u8]]) -> Result<Option<Entry>, AllocError>
+    ensures { IfOk result (λ o. o ≡ kinds.entry_of phases.now (texts words.now)) }
 {
     match words {
         [word, name, number, counts @ ..] => {
             if !is_word(*word, b"entry") {
                 return Ok(None);
             }
-            match place_in(*name, phases) {
-                None => Ok(None),
-                Some(phase) => match amount(*number) {
-                    None => Ok(None),
-                    Some(amount) => match site(alloc, counts)? {
-                        None => Ok(None),
-                        Some(site) => Ok(Some(Entry {
-                            phase,
-                            amount,
-                            site,
-                        })),
-                    },
-                },
-            }
+            let Some(phase) = place_of(*name, phases) else {
+                return Ok(None);
+            };
+            let Some(amount) = amount_of(*number) else {
+                return Ok(None);
+            };
+            let Some(site) = site_of(alloc, counts)? else {
+                return Ok(None);
+            };
+            Ok(Some(Entry {
+                phase,
+                amount,
+                site,
+            }))
         }
         _ => Ok(None),
     }
 }
 
-#[tactic(auto, unfolding(cal_lines::specs::Reading::of_line))]
 fn entry_line<'a>(
     alloc: Global,
     phases: &[Name],
     at: Place<'a>,
 ) -> Result<(Entry, Place<'a>), TextFault>
-    ensures { Gives (λ x. (x.0, place x.1)) result (of_line (entry_of phases.now) (place at.entry)) }
+    ensures { ReadsAt result (of_line (kinds.entry_of phases.now)) at.entry }
 {
-    let (words, after) = words_at(alloc, at)?;
-    match entry(alloc, phases, words.as_slice())? {
-        None => Err(TextFault::Line(at.number)),
-        Some(entry) => Ok((entry, after)),
-    }
+    read_line(alloc, at, |words| entry_of(alloc, phases, words))
 }
 
 #[tactic(auto, unfolding(crate::specs::Kinds::count_of))]
-fn count(words: &[&[u8]]) -> Option<u32>
-    ensures { result ≡ count_of (map (λ w. w.now) words.now) }
+fn count_of(words: &[&[u8]]) -> Option<u32>
+    ensures { result ≡ kinds.count_of (texts words.now) }
 {
-    let count = natural(words, b"entries", 32)?;
+    let count = natural_after(words, b"entries", MOST_ENTRIES as u128)?;
     Some(count as u32)
 }
 
-#[tactic(auto, unfolding(cal_lines::specs::Reading::of_line))]
 fn count_line<'a>(alloc: Global, at: Place<'a>) -> Result<(u32, Place<'a>), TextFault>
-    ensures { Gives (λ x. (x.0, place x.1)) result (of_line count_of (place at.entry)) }
+    ensures { ReadsAt result (of_line kinds.count_of) at.entry }
 {
-    let (words, after) = words_at(alloc, at)?;
-    match count(words.as_slice()) {
-        None => Err(TextFault::Line(at.number)),
-        Some(count) => Ok((count, after)),
-    }
+    read_line(alloc, at, |words| Ok(count_of(words)))
 }
 
 fn entry_lines<'a>(
@@ -156,7 +149,7 @@ fn entry_lines<'a>(
     count: u32,
     at: Place<'a>,
 ) -> Result<(Items<Entry>, Place<'a>), TextFault>
-    ensures { Gives (λ x. (x.0, place x.1)) result (many entries_next (entry_of phases.now) count (place at.entry).0 (place at.entry).1) }
+    ensures { ReadsAt result (entry_lines_at phases.now count) at.entry }
 {
     let mut all = Items::new(alloc);
     let mut here = at;
@@ -175,7 +168,7 @@ pub(crate) fn entries<'a>(
     phases: &[Name],
     at: Place<'a>,
 ) -> Result<(Items<Entry>, Place<'a>), TextFault>
-    ensures { Gives (λ x. (x.0, place x.1)) result (entries_at phases.now (place at.entry)) }
+    ensures { ReadsAt result (entries_at phases.now) at.entry }
 {
     let (count, after) = count_line(alloc, at)?;
     let (entries, after) = entry_lines(alloc, phases, count, after)?;

@@ -1,21 +1,22 @@
 //! The lines above the entries, and the last line.
 
-ghost use Rattle.std.specs.Prelude.{◌≡◌, map};
-ghost use Rattle.cal_lines.specs.Places.{place};
-ghost use Rattle.cal_lines.specs.Reading.{Gives, of_line};
-ghost use Rattle.cal_lines.specs.Kinds.{names_of};
-ghost use Rattle.cef_core.specs.Lattices.{is_lattice};
-ghost use Rattle.eq_text.specs.Kinds.{two_words_of, end_of, temperature_of, lattice_of};
+ghost use Rattle.std.specs.Prelude.{◌≡◌};
+ghost use Rattle.cal_scan.specs.Lines.{texts};
+ghost use Rattle.cal_lines.specs.Places.{ReadsAt};
+ghost use Rattle.cal_lines.specs.Reading.{of_line};
+ghost use Rattle.cal_lines.specs.Kinds.{names_after};
+ghost use Rattle.eq_text.specs.Kinds as kinds;
 
-use crate::read::numbers::natural;
-use cal_lines::{Place, TextFault, names, words_at};
+use crate::read::numbers::natural_after;
+use cal_limits::{HIGHEST_TEMPERATURE, LOWEST_TEMPERATURE, MOST_PARTS};
+use cal_lines::{Place, TextFault, names, read_line};
 use cal_list::Items;
-use cef_core::Name;
+use cal_scan::is_word;
+use cef_core::{Name, is_lattice};
 use std::alloc::Global;
-use tdb_scan::is_word;
 
-fn two_words(words: &[&[u8]], first: &[u8], second: &[u8]) -> Option<()>
-    ensures { result ≡ two_words_of first.now second.now (map (λ w. w.now) words.now) }
+fn two_words_of(words: &[&[u8]], first: &[u8], second: &[u8]) -> Option<()>
+    ensures { result ≡ kinds.two_words_of first.now second.now (texts words.now) }
 {
     match words {
         [word, other] => {
@@ -32,8 +33,8 @@ fn two_words(words: &[&[u8]], first: &[u8], second: &[u8]) -> Option<()>
     }
 }
 
-fn end(words: &[&[u8]]) -> Option<()>
-    ensures { result ≡ end_of (map (λ w. w.now) words.now) }
+fn end_of(words: &[&[u8]]) -> Option<()>
+    ensures { result ≡ kinds.end_of (texts words.now) }
 {
     match words {
         [word] => {
@@ -48,98 +49,66 @@ fn end(words: &[&[u8]]) -> Option<()>
 }
 
 #[tactic(auto, unfolding(crate::specs::Kinds::temperature_of))]
-fn temperature(words: &[&[u8]]) -> Option<u32>
-    ensures { result ≡ temperature_of (map (λ w. w.now) words.now) }
+fn temperature_of(words: &[&[u8]]) -> Option<u32>
+    ensures { result ≡ kinds.temperature_of (texts words.now) }
 {
-    let t = natural(words, b"temperature", 600000)?;
-    if t > 99 { Some(t as u32) } else { None }
-}
-
-/// Whether a sublattice may have so many parts.
-fn is_listed(parts: u128) -> bool
-    ensures { result ≡ is_lattice parts }
-{
-    let lattices = [10, 20, 25, 40, 50, 100, 125, 200, 250, 500, 1000];
-    lattices.iter().any(|lattice| parts == *lattice)
-}
-
-#[tactic(auto, unfolding(crate::specs::Kinds::lattice_of))]
-fn lattice(words: &[&[u8]]) -> Option<u32>
-    ensures { result ≡ lattice_of (map (λ w. w.now) words.now) }
-{
-    let parts = natural(words, b"lattice", 1000)?;
-    if is_listed(parts) {
-        Some(parts as u32)
+    let t = natural_after(words, b"temperature", u128::from(HIGHEST_TEMPERATURE))?;
+    if t >= u128::from(LOWEST_TEMPERATURE) {
+        Some(t as u32)
     } else {
         None
     }
 }
 
-#[tactic(auto, unfolding(cal_lines::specs::Reading::of_line))]
+#[tactic(auto, unfolding(crate::specs::Kinds::lattice_of))]
+fn lattice_of(words: &[&[u8]]) -> Option<u32>
+    ensures { result ≡ kinds.lattice_of (texts words.now) }
+{
+    let parts = natural_after(words, b"lattice", u128::from(MOST_PARTS))?;
+    let parts = parts as u32;
+    if is_lattice(parts) { Some(parts) } else { None }
+}
+
 pub(crate) fn two_words_line<'a>(
     alloc: Global,
     first: &[u8],
     second: &[u8],
     at: Place<'a>,
-) -> Result<Place<'a>, TextFault>
-    ensures { Gives (λ x. (tt, place x)) result (of_line (two_words_of first.now second.now) (place at.entry)) }
+) -> Result<((), Place<'a>), TextFault>
+    ensures { ReadsAt result (of_line (kinds.two_words_of first.now second.now)) at.entry }
 {
-    let (words, after) = words_at(alloc, at)?;
-    match two_words(words.as_slice(), first, second) {
-        None => Err(TextFault::Line(at.number)),
-        Some(()) => Ok(after),
-    }
+    read_line(alloc, at, |words| Ok(two_words_of(words, first, second)))
 }
 
-#[tactic(auto, unfolding(cal_lines::specs::Reading::of_line))]
-pub(crate) fn end_line<'a>(alloc: Global, at: Place<'a>) -> Result<Place<'a>, TextFault>
-    ensures { Gives (λ x. (tt, place x)) result (of_line end_of (place at.entry)) }
+pub(crate) fn end_line<'a>(alloc: Global, at: Place<'a>) -> Result<((), Place<'a>), TextFault>
+    ensures { ReadsAt result (of_line kinds.end_of) at.entry }
 {
-    let (words, after) = words_at(alloc, at)?;
-    match end(words.as_slice()) {
-        None => Err(TextFault::Line(at.number)),
-        Some(()) => Ok(after),
-    }
+    read_line(alloc, at, |words| Ok(end_of(words)))
 }
 
-#[tactic(auto, unfolding(cal_lines::specs::Reading::of_line))]
 pub(crate) fn temperature_line<'a>(
     alloc: Global,
     at: Place<'a>,
 ) -> Result<(u32, Place<'a>), TextFault>
-    ensures { Gives (λ x. (x.0, place x.1)) result (of_line temperature_of (place at.entry)) }
+    ensures { ReadsAt result (of_line kinds.temperature_of) at.entry }
 {
-    let (words, after) = words_at(alloc, at)?;
-    match temperature(words.as_slice()) {
-        None => Err(TextFault::Line(at.number)),
-        Some(t) => Ok((t, after)),
-    }
+    read_line(alloc, at, |words| Ok(temperature_of(words)))
 }
 
-#[tactic(auto, unfolding(cal_lines::specs::Reading::of_line))]
 pub(crate) fn lattice_line<'a>(alloc: Global, at: Place<'a>) -> Result<(u32, Place<'a>), TextFault>
-    ensures { Gives (λ x. (x.0, place x.1)) result (of_line lattice_of (place at.entry)) }
+    ensures { ReadsAt result (of_line kinds.lattice_of) at.entry }
 {
-    let (words, after) = words_at(alloc, at)?;
-    match lattice(words.as_slice()) {
-        None => Err(TextFault::Line(at.number)),
-        Some(parts) => Ok((parts, after)),
-    }
+    read_line(alloc, at, |words| Ok(lattice_of(words)))
 }
 
 /// A key and names, at most so many of them where there is a limit.
-#[tactic(auto, unfolding(cal_lines::specs::Reading::of_line))]
 pub(crate) fn names_line<'a>(
     alloc: Global,
     key: &[u8],
     most: Option<usize>,
     at: Place<'a>,
 ) -> Result<(Items<Name>, Place<'a>), TextFault>
-    ensures { Gives (λ x. (x.0, place x.1)) result (of_line (names_of key.now most) (place at.entry)) }
+    ensures { ReadsAt result (of_line (names_after key.now most)) at.entry }
 {
-    let (words, after) = words_at(alloc, at)?;
-    match names(alloc, key, most, words.as_slice())? {
-        None => Err(TextFault::Line(at.number)),
-        Some(names) => Ok((names, after)),
-    }
+    read_line(alloc, at, |words| names(alloc, key, most, words))
 }

@@ -1,7 +1,8 @@
 //! The parts of a report, on the way to the whole.
 
 use cal_list::Items;
-use cef_core::{Entry, Name, Tree};
+use cef_core::{Name, Tree};
+use cef_report::Entry;
 
 #[derive(Drop)]
 pub(crate) struct Bounds {

@@ -1,13 +1,13 @@
 //! The parts of a report one behind the other.
 
-ghost use Rattle.std.specs.Prelude.{◌≡◌, ◌^◌, ◌≤◌, IfOk, length};
-ghost use Rattle.cal_lines.specs.Places.{place};
+ghost use Rattle.std.specs.Prelude.{◌≡◌, ◌≤◌, IfOk, length};
+ghost use Rattle.cal_lines.specs.Places.{ReadsAs};
 ghost use Rattle.cal_lines.specs.Reading.{Gives, lines_of, OnLine};
-ghost use Rattle.cef_core.specs.Texts.{text};
-ghost use Rattle.cef_core.specs.Spelled.{IsSpelled};
-ghost use Rattle.cef_core.specs.declared.report.Report.{Report};
+ghost use Rattle.cef_report.specs.Texts.{text};
+ghost use Rattle.cef_report.specs.Spelled.{IsSpelled};
+ghost use Rattle.cef_report.specs.declared.report.Report.{Report};
 ghost use Rattle.eq_text.specs.Parsing.{closing_at, body_at, named_at, report_at, all_of, fields};
-ghost use Rattle.eq_text.specs.Fields.{body_of, named_of};
+ghost use Rattle.eq_text.specs.Fields.{closed, body_of, named_of};
 ghost use Rattle.eq_text.specs.Faults.{Reads, IsFaultLine};
 
 use crate::read::entry::entries;
@@ -16,9 +16,11 @@ use crate::read::numbers::asked_line;
 use crate::read::parts::{Body, Named, Sums};
 use crate::read::sums::sums;
 use crate::read::tree::trees;
+use cal_limits::{MOST_ELEMENTS, MOST_REPORT_BYTES};
 use cal_lines::{Place, TextFault};
 use cal_list::Items;
-use cef_core::{Name, Report, Tree};
+use cef_core::{Name, Tree};
+use cef_report::Report;
 use std::alloc::Global;
 
 #[tactic(auto, unfolding(crate::specs::Parsing::closing_at, cal_lines::specs::Reading::both))]
@@ -27,10 +29,10 @@ fn closing<'a>(
     phases: &[Name],
     at: Place<'a>,
 ) -> Result<(Items<Tree>, Place<'a>), TextFault>
-    ensures { Gives (λ x. ((x.0, tt), place x.1)) result (closing_at phases.now (place at.entry)) }
+    ensures { ReadsAs closed result (closing_at phases.now) at.entry }
 {
     let (trees, after) = trees(alloc, phases, at)?;
-    let after = end_line(alloc, after)?;
+    let ((), after) = end_line(alloc, after)?;
     Ok((trees, after))
 }
 
@@ -41,7 +43,7 @@ fn body<'a>(
     phases: &[Name],
     at: Place<'a>,
 ) -> Result<(Body, Place<'a>), TextFault>
-    ensures { Gives (λ x. (body_of x.0, place x.1)) result (body_at elements phases.now (place at.entry)) }
+    ensures { ReadsAs body_of result (body_at elements phases.now) at.entry }
 {
     let (asked, after) = asked_line(alloc, elements, at)?;
     let (entries, after) = entries(alloc, phases, after)?;
@@ -58,9 +60,9 @@ fn body<'a>(
 
 #[tactic(auto, unfolding(crate::specs::Parsing::named_at, crate::specs::Parsing::phases_at, cal_lines::specs::Reading::both))]
 fn named<'a>(alloc: Global, at: Place<'a>) -> Result<(Named, Place<'a>), TextFault>
-    ensures { Gives (λ x. (named_of x.0, place x.1)) result (named_at (place at.entry)) }
+    ensures { ReadsAs named_of result named_at at.entry }
 {
-    let (elements, after) = names_line(alloc, b"elements", Some(8), at)?;
+    let (elements, after) = names_line(alloc, b"elements", Some(MOST_ELEMENTS), at)?;
     let (phases, after) = names_line(alloc, b"phases", None, after)?;
     let (body, after) = body(alloc, elements.len(), phases.as_slice(), after)?;
     let named = Named {
@@ -108,9 +110,9 @@ fn report_of(t: u32, lattice: u32, named: Named) -> Report
 
 #[tactic(auto, unfolding(crate::specs::Parsing::report_at, cal_lines::specs::Reading::both))]
 fn report<'a>(alloc: Global, at: Place<'a>) -> Result<(Report, Place<'a>), TextFault>
-    ensures { Gives (λ x. (fields x.0, place x.1)) result (report_at (place at.entry)) }
+    ensures { ReadsAs fields result report_at at.entry }
 {
-    let after = two_words_line(alloc, b"equilibrium", b"1", at)?;
+    let ((), after) = two_words_line(alloc, b"equilibrium", b"1", at)?;
     let (t, after) = temperature_line(alloc, after)?;
     let (lattice, after) = lattice_line(alloc, after)?;
     let (named, after) = named(alloc, after)?;
@@ -119,7 +121,7 @@ fn report<'a>(alloc: Global, at: Place<'a>) -> Result<(Report, Place<'a>), TextF
 
 #[tactic(auto, unfolding(crate::specs::Parsing::all_of))]
 fn all(alloc: Global, bytes: &[u8]) -> Result<Report, TextFault>
-    requires { length bytes.now ≤ 2 ^ 28 }
+    requires { length bytes.now ≤ MOST_REPORT_BYTES }
     ensures { Gives fields result (all_of (1, lines_of bytes.now)) }
 {
     let (found, after) = report(alloc, Place::start(bytes))?;
@@ -130,7 +132,7 @@ fn all(alloc: Global, bytes: &[u8]) -> Result<Report, TextFault>
 /// The report that the bytes are the text of; or the number of the first line, counted from 1, at which no text of a
 /// report goes on.
 pub fn read_report(alloc: Global, bytes: &[u8]) -> Result<Report, TextFault>
-    requires { length bytes.now ≤ 2 ^ 28 }
+    requires { length bytes.now ≤ MOST_REPORT_BYTES }
     // What is read has a text, and the bytes are this text.
     ensures found { IfOk result (λ r. IsSpelled r × (bytes.now ≡ text r)) }
     // The text of a report is read, unless memory runs out.

@@ -1,12 +1,12 @@
 //! The totals of the assemblage and the bounds on it.
 
-ghost use Rattle.cal_lines.specs.Places.{place};
-ghost use Rattle.cal_lines.specs.Reading.{Gives};
+ghost use Rattle.cal_lines.specs.Places.{ReadsAs};
 ghost use Rattle.eq_text.specs.Fields.{bounds_of, sums_of};
 ghost use Rattle.eq_text.specs.Parsing.{bounds_at, sums_at};
 
 use crate::read::numbers::{integer_line, integers_line, size_line};
 use crate::read::parts::{Bounds, Sums};
+use cal_limits::{MOST_NUMBER, MOST_PRINTED_GAP, MOST_TOLERANCE};
 use cal_lines::{Place, TextFault};
 use std::alloc::Global;
 
@@ -16,10 +16,10 @@ fn bounds<'a>(
     elements: usize,
     at: Place<'a>,
 ) -> Result<(Bounds, Place<'a>), TextFault>
-    ensures { Gives (λ x. (bounds_of x.0, place x.1)) result (bounds_at elements (place at.entry)) }
+    ensures { ReadsAs bounds_of result (bounds_at elements) at.entry }
 {
-    let (tolerance, after) = size_line(alloc, b"tolerance", 1 << 60, at)?;
-    let (gap, after) = size_line(alloc, b"gap", 1 << 110, after)?;
+    let (tolerance, after) = size_line(alloc, b"tolerance", MOST_TOLERANCE, at)?;
+    let (gap, after) = size_line(alloc, b"gap", MOST_PRINTED_GAP, after)?;
     let (potentials, after) = integers_line(alloc, b"potentials", elements, after)?;
     let bounds = Bounds {
         tolerance,
@@ -35,10 +35,10 @@ pub(crate) fn sums<'a>(
     elements: usize,
     at: Place<'a>,
 ) -> Result<(Sums, Place<'a>), TextFault>
-    ensures { Gives (λ x. (sums_of x.0, place x.1)) result (sums_at elements (place at.entry)) }
+    ensures { ReadsAs sums_of result (sums_at elements) at.entry }
 {
     let (totals, after) = integers_line(alloc, b"total", elements, at)?;
-    let (energy, after) = integer_line(alloc, b"energy", 1 << 120, after)?;
+    let (energy, after) = integer_line(alloc, b"energy", MOST_NUMBER, after)?;
     let (bounds, after) = bounds(alloc, elements, after)?;
     let sums = Sums {
         totals,

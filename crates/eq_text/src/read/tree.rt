@@ -1,25 +1,27 @@
 //! The tree of each phase.
 
-ghost use Rattle.std.specs.Prelude.{◌≡◌, ◌^◌, ◌≤◌, ◌<◌, ◌+◌, ◌-◌, IfOk, map, length};
-ghost use Rattle.cal_lines.specs.Places.{place};
-ghost use Rattle.cal_lines.specs.Words.{natural};
-ghost use Rattle.cal_lines.specs.Reading.{Gives, of_line};
+ghost use Rattle.std.specs.Prelude.{◌≡◌, ◌^◌, ◌≤◌, ◌<◌, ◌+◌, ◌-◌, IfOk, length};
+ghost use Rattle.cal_scan.specs.Lines.{texts};
+ghost use Rattle.cal_lines.specs.Places.{ReadsAt};
+ghost use Rattle.cal_lines.specs.Words as words;
+ghost use Rattle.cal_lines.specs.Reading.{of_line};
 ghost use Rattle.cal_lines.specs.Choosing.{each};
-ghost use Rattle.eq_text.specs.Kinds.{node_of, split_made};
+ghost use Rattle.eq_text.specs.Kinds as kinds;
 ghost use Rattle.eq_text.specs.Parsing.{node_next, nodes_at, tree_at};
 
 use crate::read::head::two_words_line;
-use cal_lines::{Place, TextFault, all_integers, natural_of, words_at};
+use cal_limits::{MOST_COUNT, MOST_NUMBER};
+use cal_lines::{Place, TextFault, all_integers, natural_of, read_line};
 use cal_list::Items;
+use cal_scan::is_word;
 use cef_core::{Name, Node, Tree};
 use std::alloc::{AllocError, Global};
-use tdb_scan::is_word;
 
-fn split(place: &[u8], cut: &[u8]) -> Option<Node>
-    ensures { result ≡ split_made (natural 65535 place.now) (natural 65535 cut.now) }
+fn split_made(place: &[u8], cut: &[u8]) -> Option<Node>
+    ensures { result ≡ kinds.split_made (words.natural_of MOST_COUNT place.now) (words.natural_of MOST_COUNT cut.now) }
 {
-    let place = natural_of(place, 65535)?;
-    let cut = natural_of(cut, 65535)?;
+    let place = natural_of(place, u128::from(MOST_COUNT))?;
+    let cut = natural_of(cut, u128::from(MOST_COUNT))?;
     Some(Node::Split {
         place: place as u16,
         cut: cut as u16,
@@ -27,8 +29,8 @@ fn split(place: &[u8], cut: &[u8]) -> Option<Node>
 }
 
 #[tactic(auto, unfolding(crate::specs::Kinds::node_of))]
-fn node(alloc: Global, words: &[&[u8]]) -> Result<Option<Node>, AllocError>
-    ensures { IfOk result (λ o. o ≡ node_of (map (λ w. w.now) words.now)) }
+fn node_of(alloc: Global, words: &[&[u8]]) -> Result<Option<Node>, AllocError>
+    ensures { IfOk result (λ o. o ≡ kinds.node_of (texts words.now)) }
 {
     match words {
         [] => Ok(None),
@@ -41,13 +43,13 @@ fn node(alloc: Global, words: &[&[u8]]) -> Result<Option<Node>, AllocError>
         }
         [word, rest @ ..] => {
             if is_word(*word, b"L") {
-                match all_integers(alloc, rest, 1 << 120)? {
+                match all_integers(alloc, rest, MOST_NUMBER)? {
                     None => Ok(None),
                     Some(multipliers) => Ok(Some(Node::Leaf { multipliers })),
                 }
             } else if is_word(*word, b"S") {
                 match rest {
-                    [place, cut] => Ok(split(*place, *cut)),
+                    [place, cut] => Ok(split_made(*place, *cut)),
                     _ => Ok(None),
                 }
             } else {
@@ -57,16 +59,11 @@ fn node(alloc: Global, words: &[&[u8]]) -> Result<Option<Node>, AllocError>
     }
 }
 
-#[tactic(auto, unfolding(cal_lines::specs::Reading::of_line))]
 fn node_line<'a>(alloc: Global, at: Place<'a>) -> Result<(Node, Place<'a>), TextFault>
-    ensures reads { Gives (λ x. (x.0, place x.1)) result (of_line node_of (place at.entry)) }
+    ensures reads { ReadsAt result (of_line kinds.node_of) at.entry }
     ensures shorter { IfOk result (λ x. length x.1.rest.now < length at.entry.rest.now) }
 {
-    let (words, after) = words_at(alloc, at)?;
-    match node(alloc, words.as_slice())? {
-        None => Err(TextFault::Line(at.number)),
-        Some(node) => Ok((node, after)),
-    }
+    read_line(alloc, at, |words| node_of(alloc, words))
 }
 
 /// How many subtrees are open behind a node, where so many were open before it.
@@ -85,7 +82,7 @@ fn open_behind(node: &Node, open_trees: u64) -> u64
 
 /// The nodes of a whole box in preorder.
 fn nodes<'a>(alloc: Global, at: Place<'a>) -> Result<(Items<Node>, Place<'a>), TextFault>
-    ensures { Gives (λ x. (x.0, place x.1)) result (nodes_at (place at.entry)) }
+    ensures { ReadsAt result nodes_at at.entry }
 {
     let mut all = Items::new(alloc);
     let mut here = at;
@@ -101,9 +98,9 @@ fn nodes<'a>(alloc: Global, at: Place<'a>) -> Result<(Items<Node>, Place<'a>), T
 
 #[tactic(auto, unfolding(crate::specs::Parsing::tree_at, cal_lines::specs::Reading::both))]
 fn tree<'a>(alloc: Global, phase: &[u8], at: Place<'a>) -> Result<(Tree, Place<'a>), TextFault>
-    ensures { Gives (λ x. (x.0, place x.1)) result (tree_at phase.now (place at.entry)) }
+    ensures { ReadsAt result (tree_at phase.now) at.entry }
 {
-    let after = two_words_line(alloc, b"tree", phase, at)?;
+    let ((), after) = two_words_line(alloc, b"tree", phase, at)?;
     let (nodes, after) = nodes(alloc, after)?;
     Ok((Tree { nodes }, after))
 }
@@ -114,7 +111,7 @@ pub(crate) fn trees<'a>(
     phases: &[Name],
     at: Place<'a>,
 ) -> Result<(Items<Tree>, Place<'a>), TextFault>
-    ensures { Gives (λ x. (x.0, place x.1)) result (each tree_at phases.now (place at.entry)) }
+    ensures { ReadsAt result (each tree_at phases.now) at.entry }
 {
     let mut all = Items::new(alloc);
     let mut here = at;

@@ -3,11 +3,13 @@
 ghost use Rattle.std.specs.Prelude.{◌≡◌, ◌<◌, ◌++◌, OnOk, length};
 ghost use Rattle.std.specs.List.{flat_map};
 ghost use Rattle.std.specs.Fmt.{decimal};
-ghost use Rattle.cef_core.specs.Texts.{line, entry_words, counts_words};
+ghost use Rattle.cal_scan.specs.Lines.{line};
+ghost use Rattle.cef_report.specs.Texts.{entry_words, counts_words};
 ghost use Rattle.eq_text.specs.Spacing.{spaced, spelled, sublattice_words};
 
 use crate::write::line::{put_count, put_number, put_word};
-use cef_core::{Entry, Name, Site};
+use cef_core::{Name, Site};
+use cef_report::Entry;
 use std::alloc::{AllocError, Global};
 
 fn put_counts(alloc: Global, out: &mut Vec<u8>, counts: &[u16]) -> Result<(), AllocError>

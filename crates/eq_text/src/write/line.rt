@@ -3,7 +3,8 @@
 ghost use Rattle.std.specs.Prelude.{◌≡◌, ◌++◌, ◌∷◌, [], OnOk, OnErr, map};
 ghost use Rattle.std.specs.List.{flat_map};
 ghost use Rattle.std.specs.Fmt.{decimal, signed_decimal};
-ghost use Rattle.cef_core.specs.Texts.{line, number_words};
+ghost use Rattle.cal_scan.specs.Lines.{line};
+ghost use Rattle.cef_report.specs.Texts.{number_words};
 ghost use Rattle.eq_text.specs.Spacing.{spaced};
 
 use cef_core::Name;
@@ -54,7 +55,7 @@ pub(crate) fn put_numbers_line(
 }
 
 /// The key and the number, which is never below 0.
-#[tactic(auto, unfolding(cef_core::specs::Texts::line))]
+#[tactic(auto, unfolding(cal_scan::specs::Lines::line))]
 pub(crate) fn put_count_line(
     alloc: Global,
     out: &mut Vec<u8>,

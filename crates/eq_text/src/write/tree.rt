@@ -1,16 +1,16 @@
 //! The lines of a tree.
 
 ghost use Rattle.std.specs.Prelude.{◌≡◌, ◌++◌, ◌∷◌, [], OnOk, length, codes};
-ghost use Rattle.std.specs.List.{flat_map};
+ghost use Rattle.std.specs.List.{concat, flat_map};
 ghost use Rattle.std.specs.Fmt.{decimal};
-ghost use Rattle.cef_core.specs.Texts.{line, node_words};
-ghost use Rattle.eq_text.specs.Parts.{trees_text};
+ghost use Rattle.cal_scan.specs.Lines.{line};
+ghost use Rattle.cef_report.specs.Texts.{node_words, tree_lines};
 
 use crate::write::line::{put_count, put_numbers_line, put_word};
 use cef_core::{Name, Node, Tree};
 use std::alloc::{AllocError, Global};
 
-#[tactic(auto, unfolding(cef_core::specs::Texts::line))]
+#[tactic(auto, unfolding(cal_scan::specs::Lines::line))]
 fn put_split(alloc: Global, out: &mut Vec<u8>, place: u16, cut: u16) -> Result<(), AllocError>
     ensures { OnOk result (out.new.items ≡ out.old.items ++ line (codes "S" ∷ decimal place ∷ decimal cut ∷ [])) }
 {
@@ -21,7 +21,7 @@ fn put_split(alloc: Global, out: &mut Vec<u8>, place: u16, cut: u16) -> Result<(
     Ok(())
 }
 
-#[tactic(auto, unfolding(cef_core::specs::Texts::line))]
+#[tactic(auto, unfolding(cal_scan::specs::Lines::line))]
 fn put_node(alloc: Global, out: &mut Vec<u8>, node: &Node) -> Result<(), AllocError>
     ensures { OnOk result (out.new.items ≡ out.old.items ++ line (node_words node.now)) }
 {
@@ -42,7 +42,7 @@ fn put_nodes(alloc: Global, out: &mut Vec<u8>, nodes: &[Node]) -> Result<(), All
     Ok(())
 }
 
-#[tactic(auto, unfolding(cef_core::specs::Texts::line))]
+#[tactic(auto, unfolding(cal_scan::specs::Lines::line))]
 fn put_tree(alloc: Global, out: &mut Vec<u8>, phase: &Name, tree: &Tree) -> Result<(), AllocError>
     ensures { OnOk result (out.new.items ≡ out.old.items ++ line (codes "tree" ∷ phase.now ∷ []) ++ flat_map (λ node. line (node_words node)) tree.now.nodes) }
 {
@@ -61,7 +61,7 @@ pub(crate) fn put_trees(
     trees: &[Tree],
 ) -> Result<(), AllocError>
     requires { length trees.now ≡ length phases.now }
-    ensures { OnOk result (out.new.items ≡ out.old.items ++ trees_text phases.now trees.now) }
+    ensures { OnOk result (out.new.items ≡ out.old.items ++ concat (tree_lines phases.now trees.now)) }
 {
     'trees: for place in 0..trees.len() {
         put_tree(alloc, out, &phases[place], &trees[place])?;

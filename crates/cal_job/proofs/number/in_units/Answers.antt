@@ -1,11 +1,15 @@
-use Rattle.cal_job.proofs.Capping.{within_cap, three_parts}
+use Rattle.std.proofs.Common.{rules, arith, ◌≡◌, ◌*◌, ◌+◌, ◌^◌, ◌≤◌, ◌-◌, min, length}
+use Rattle.cal_job.specs.declared.number.TheConstants.{CAP}
+use Rattle.cal_job.proofs.Capping.{product_small, units_capped}
 use Rattle.cal_job.proofs.number.in_units.Goals as goal
 
-pub with_digits-value-requires-2-clause-number : goal.with_digits-value-requires-2-clause-number
-with_digits-value-requires-2-clause-number c = within_cap _ _ c.with_digits-value.ensures
-
-pub with_zeros-requires : goal.with_zeros-requires
-with_zeros-requires c = within_cap _ _ c.with_digits-value-2.ensures
+pub overflow_add-whole_units : goal.overflow_add-whole_units
+overflow_add-whole_units c =
+    let first : c.capped_value.result * c.pow.result ≤ CAP * 10 ^ 9 = rw c.pow.ensures (product_small c.capped_value.result c.args.places _ c.requires.places c.capped_value.ensures) in
+    let second : c.capped_value-2.result * c.pow-2.result ≤ CAP * 10 ^ 9 = rw c.pow-2.ensures (product_small c.capped_value-2.result _ _ (omega (arith, c.requires.places)) c.capped_value-2.ensures) in
+    omega (arith, first, second)
 
 pub returns : goal.returns
-returns c = three_parts c.with_digits-value.result c.with_digits-value-2.result c.with_zeros.result c.args.places c.args.whole.now c.args.fraction.now c.requires.places c.with_digits-value.ensures c.with_digits-value-2.ensures c.with_zeros.ensures
+returns c =
+    let is : c.min.result ≡ min CAP (c.capped_value.result * 10 ^ c.args.places + c.capped_value-2.result * 10 ^ (c.args.places - length c.args.fraction.now)) = search rules in
+    units_capped c.args.places c.args.whole.now c.args.fraction.now c.capped_value.result c.capped_value-2.result c.min.result c.capped_value.ensures c.capped_value-2.ensures is

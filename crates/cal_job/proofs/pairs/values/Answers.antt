@@ -1,7 +1,7 @@
 use Rattle.std.proofs.Common.{rules, tests}
 use Rattle.std.proofs.lemmas.Iterator.{YieldsList-from_slice, YieldsList-from_map_by}
 use Rattle.std.proofs.lemmas.Iterator.Consumers.{map_from_collect, YieldsList-at, YieldsList-from_filter}
-use Rattle.tdb_scan.specs.Words.{same_word}
+use Rattle.cal_scan.specs.Words.{same_word}
 use Rattle.cal_job.proofs.Pairing.{values_of_pairs}
 use Rattle.cal_job.proofs.pairs.values.Goals as goal
 

@@ -6,6 +6,6 @@ use Rattle.cal_job.proofs.Pairing.{only}
 use Rattle.cal_job.proofs.reading.number.Goals as goal
 
 pub returns-in_err-text-clause-usage : goal.returns-in_err-text-clause-usage
-returns-in_err-text-clause-usage c = λ e number low high is.
-    let one = only (fixed_of c.args.places) (values_of c.args.option.now (pairs_of c.args.pairs.now)) (Some number) is in
-    c.in_err-text.ensures.usage (search rules) one.element one.is
+returns-in_err-text-clause-usage c = λ e number range is.
+    let one = only (fixed_of c.args.form.decimals) (values_of c.args.option.now (pairs_of c.args.pairs.now)) (Some number) is in
+    c.in_err-text.ensures.usage (search rules) one.element one.single

@@ -1,5 +1,5 @@
 use Rattle.std.proofs.Common.{rules, ◌≡◌, ◌∷◌, List, string_bytes, map, true, false, codes, sym, ap, subst}
-use Rattle.tdb_scan.specs.Words.{same_word}
+use Rattle.cal_scan.specs.Words.{same_word}
 use Rattle.cal_job.specs.Saying.{Word, Says}
 use Rattle.cal_job.proofs.Commands.{other_command, command_is, Says_name}
 use Rattle.cal_job.proofs.reading.read_words.Goals as goal

@@ -1,12 +1,9 @@
 use Rattle.std.proofs.Common.{map}
-use Rattle.cal_lines.proofs.Spelled.{names_found, names_bound, names_all}
+use Rattle.cal_lines.proofs.Spelled.{names_found, names_all}
 use Rattle.cal_lines.proofs.name_list.names.Goals as goal
 
 pub returns-clause-found : goal.returns-clause-found
 returns-clause-found c = names_found c.args.key.now c.args.most (map (λ w. w.now) c.args.words.now) _ c.in_ok-found.ensures
-
-pub returns-clause-bound : goal.returns-clause-bound
-returns-clause-bound c = names_bound c.args.key.now c.args.most (map (λ w. w.now) c.args.words.now) _ c.in_ok-found.ensures
 
 pub returns-clause-all : goal.returns-clause-all
 returns-clause-all c = names_all c.args.key.now c.args.most (map (λ w. w.now) c.args.words.now) _ c.in_ok-found.ensures

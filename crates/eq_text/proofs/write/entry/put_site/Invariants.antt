@@ -1,5 +1,5 @@
 use Rattle.std.proofs.Common.{◌≡◌, ◌++◌, take}
-use Rattle.cef_core.specs.Texts.{counts_words}
+use Rattle.cef_report.specs.Texts.{counts_words}
 use Rattle.eq_text.specs.Spacing.{spelled}
 use Rattle.eq_text.proofs.write.entry.put_site.Given as goal
 

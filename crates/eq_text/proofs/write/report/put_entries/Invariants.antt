@@ -2,7 +2,8 @@ use Rattle.std.proofs.Common.{◌≡◌, ◌++◌, ◌∷◌, [], take, length}
 use Rattle.std.specs.Prelude.{codes}
 use Rattle.std.specs.Fmt.{decimal}
 use Rattle.std.specs.List.{flat_map}
-use Rattle.cef_core.specs.Texts.{line, entry_words}
+use Rattle.cal_scan.specs.Lines.{line}
+use Rattle.cef_report.specs.Texts.{entry_words}
 use Rattle.eq_text.proofs.write.report.put_entries.Given as goal
 
 abbrev pub invariant-entries : goal.invariant-entries

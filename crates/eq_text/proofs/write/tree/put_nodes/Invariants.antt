@@ -1,6 +1,7 @@
 use Rattle.std.proofs.Common.{◌≡◌, ◌++◌, take}
 use Rattle.std.specs.List.{flat_map}
-use Rattle.cef_core.specs.Texts.{line, node_words}
+use Rattle.cal_scan.specs.Lines.{line}
+use Rattle.cef_report.specs.Texts.{node_words}
 use Rattle.eq_text.proofs.write.tree.put_nodes.Given as goal
 
 abbrev pub invariant-nodes : goal.invariant-nodes

@@ -1,5 +1,0 @@
-use Rattle.std.proofs.Common.{◌≡◌, take, map}
-use Rattle.cal_lines.proofs.name_list.copies.Given as goal
-
-abbrev pub invariant-words : goal.invariant-words
-invariant-words l = l.all ≡ map (λ w. w.now) (take l.word-index l.words)

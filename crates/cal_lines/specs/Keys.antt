@@ -1,9 +1,0 @@
--- A number that equal words share, by which words are put in order. Words that differ may share it too.
-use Rattle.std.specs.Prelude.{ℕ, ◌+◌, ◌*◌, ◌%◌, ◌^◌, fold}
-use Rattle.cef_core.specs.Texts.{Word}
-
-abbrev pub more : ℕ → ℕ → ℕ
-more key byte = ((key * 11400714819323198485) % 2 ^ 64 + byte) % 2 ^ 64
-
-unfoldable pub key_of : Word → ℕ
-key_of word = fold more 0 word

@@ -1,0 +1,4 @@
+pub mod Values
+pub mod Decimals
+pub mod NameLists
+pub mod Neighbours

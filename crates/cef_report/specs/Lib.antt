@@ -1,0 +1,8 @@
+-- What it means that a report holds.
+pub mod Assemblages
+pub mod Holding
+-- What shows it.
+pub mod Certificates
+-- The text of a report, and which reports have one.
+pub mod Texts
+pub mod Spelled
