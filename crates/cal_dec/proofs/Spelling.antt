@@ -11,23 +11,23 @@ use Rattle.cal_dec.specs.Scanning.{sign_in, after_sign, digits_in, after_digits,
 
 -- ---- bytes
 
-digit-value : (b : ℕ) → is_ascii_digit b ≡ true → digit_value b < 10
+pub digit-value : (b : ℕ) → is_ascii_digit b ≡ true → digit_value b < 10
 digit-value b h = grind (arith, nat_tests)
 
-value-digit : (b : ℕ) → digit_value b < 10 → is_ascii_digit b ≡ true
+pub value-digit : (b : ℕ) → digit_value b < 10 → is_ascii_digit b ≡ true
 value-digit b h = grind (arith, nat_tests)
 
-digit-no_plus : (b : ℕ) → is_ascii_digit b ≡ true → eqb b 43 ≡ false
+pub digit-no_plus : (b : ℕ) → is_ascii_digit b ≡ true → eqb b 43 ≡ false
 digit-no_plus b h = grind (arith, nat_tests)
 
-digit-no_minus : (b : ℕ) → is_ascii_digit b ≡ true → eqb b 45 ≡ false
+pub digit-no_minus : (b : ℕ) → is_ascii_digit b ≡ true → eqb b 45 ≡ false
 digit-no_minus b h = grind (arith, nat_tests)
 
-abbrev NoSign : List ℕ → Type 0
+abbrev pub NoSign : List ℕ → Type 0
 NoSign [] = Unit {0}
 NoSign (b ∷ bs) = (eqb b 43 ≡ false) × (eqb b 45 ≡ false)
 
-abbrev NoDigit : List ℕ → Type 0
+abbrev pub NoDigit : List ℕ → Type 0
 NoDigit [] = Unit {0}
 NoDigit (b ∷ bs) = is_ascii_digit b ≡ false
 
@@ -37,7 +37,7 @@ NoPoint (b ∷ bs) = eqb b 46 ≡ false
 
 -- ---- the sign
 
-sign_found : (t : List ℕ) → t ≡ sign_text (sign_in t) ++ after_sign t
+pub sign_found : (t : List ℕ) → t ≡ sign_text (sign_in t) ++ after_sign t
 unfolding sign_in after_sign
 sign_found [] = refl
 sign_found (b ∷ bs) = by_tests (eqb b 43) (eqb b 45) refl refl
@@ -47,7 +47,7 @@ sign_found (b ∷ bs) = by_tests (eqb b 43) (eqb b 45) refl refl
     by_tests false true e f = ap (λ c. c ∷ bs) (eqb-true _ _ f)
     by_tests false false e f = refl
 
-sign_again : (s : Sign) (r : List ℕ) → NoSign r → (sign_in (sign_text s ++ r) ≡ s) × (after_sign (sign_text s ++ r) ≡ r)
+pub sign_again : (s : Sign) (r : List ℕ) → NoSign r → (sign_in (sign_text s ++ r) ≡ s) × (after_sign (sign_text s ++ r) ≡ r)
 unfolding sign_in after_sign
 sign_again Absent [] clear = (refl, refl)
 sign_again Absent (b ∷ bs) clear = (rw (clear.0, clear.1) refl, rw (clear.0, clear.1) refl)
@@ -56,7 +56,7 @@ sign_again Minus r clear = (refl, refl)
 
 -- ---- digits
 
-digits_found : (t : List ℕ) → (t ≡ digits_in t ++ after_digits t) × AllDigits 10 (digits_in t)
+pub digits_found : (t : List ℕ) → (t ≡ digits_in t ++ after_digits t) × AllDigits 10 (digits_in t)
 unfolding digits_in after_digits
 digits_found [] = (refl, tt)
 digits_found (b ∷ bs) = by_test (is_ascii_digit b) refl (digits_found bs)
@@ -66,7 +66,7 @@ digits_found (b ∷ bs) = by_test (is_ascii_digit b) refl (digits_found bs)
     by_test true is ih = (ap (λ t. b ∷ t) ih.0, (digit-value b is, ih.1))
     by_test false is ih = (refl, tt)
 
-digits_again : (ds r : List ℕ) → AllDigits 10 ds → NoDigit r → (digits_in (ds ++ r) ≡ ds) × (after_digits (ds ++ r) ≡ r)
+pub digits_again : (ds r : List ℕ) → AllDigits 10 ds → NoDigit r → (digits_in (ds ++ r) ≡ ds) × (after_digits (ds ++ r) ≡ r)
 unfolding digits_in after_digits
 digits_again [] [] all clear = (refl, refl)
 digits_again [] (b ∷ bs) all clear = (rw clear refl, rw clear refl)
@@ -77,7 +77,7 @@ digits_again (d ∷ ds) r all clear =
 
 -- ---- the point
 
-fraction_found : (t : List ℕ) → (t ≡ fraction_text (fraction_in t) ++ after_fraction t) × AllDigits 10 (digits_behind (fraction_in t))
+pub fraction_found : (t : List ℕ) → (t ≡ fraction_text (fraction_in t) ++ after_fraction t) × AllDigits 10 (digits_behind (fraction_in t))
 unfolding fraction_in after_fraction
 fraction_found [] = (refl, tt)
 fraction_found (b ∷ bs) = by_test (eqb b 46) refl
@@ -128,7 +128,7 @@ power_found (b ∷ bs) p e = by_tests (eqb b 69) (some_digits (after_sign bs)) r
     by_tests true false is some e = absurd cc
     by_tests false w is some e = absurd cc
 
-no_sign-digits : (ds : List ℕ) → AllDigits 10 ds → NoSign ds
+pub no_sign-digits : (ds : List ℕ) → AllDigits 10 ds → NoSign ds
 no_sign-digits [] all = tt
 no_sign-digits (d ∷ ds) all = (digit-no_plus d (value-digit d all.0), digit-no_minus d (value-digit d all.0))
 

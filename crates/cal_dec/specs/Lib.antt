@@ -1,6 +1,7 @@
 pub mod Decimals
 pub mod Digits
 pub mod First
+pub mod Fronts
 pub mod Numerals
 pub mod Printed
 pub mod Products

@@ -92,6 +92,27 @@ numeral_in t =
     let rest = after_digits (after_sign t) in
     numeral_if (sign_in t) (digits_in (after_sign t)) (fraction_in rest) (power_in (after_fraction rest))
 
+-- ---- a number at the front
+
+abbrev pub behind_power : List ℕ → List ℕ → List ℕ → List ℕ
+behind_power text [] rest = text
+behind_power text (d ∷ ds) rest = rest
+
+-- what stands behind E, its sign and its digits, or all where they do not stand first
+unfoldable pub after_power : List ℕ → List ℕ
+after_power [] = []
+after_power (b ∷ bs) = cond (b == 69) (behind_power (b ∷ bs) (digits_in (after_sign bs)) (after_digits (after_sign bs))) (b ∷ bs)
+
+abbrev pub rest_if : List ℕ → List ℕ → List ℕ → Option (List ℕ)
+rest_if [] [] rest = None
+rest_if whole fraction rest = Some rest
+
+-- what stands behind the number
+unfoldable pub after_number : List ℕ → Option (List ℕ)
+after_number t =
+    let rest = after_digits (after_sign t) in
+    rest_if (digits_in (after_sign t)) (digits_behind (fraction_in rest)) (after_power (after_fraction rest))
+
 -- ---- what the code keeps of the parts
 
 -- the number behind E, its magnitude at most 10000

@@ -62,8 +62,8 @@ fn are_digits(text: &[u8]) -> bool
     text.iter().all(|b| b.is_ascii_digit())
 }
 
-/// The number that the digits write, or the cap if it is above.
-fn capped_value(digits: &[u8]) -> u32
+/// The number that the digits write, or 10000 if it is above.
+pub fn capped_value(digits: &[u8]) -> u32
     requires { AllDigits 10 digits.now }
     ensures value { result ≡ min (digits_value 10 digits.now) 10000 }
     ensures cap { result ≤ 10000 }
@@ -98,7 +98,7 @@ pub fn split_digits(text: &[u8]) -> (&[u8], &[u8])
 
 /// The digits behind a point, and what stands behind them.
 #[tactic(auto, unfolding(crate::specs::Scanning::fraction_in, crate::specs::Scanning::after_fraction))]
-fn split_fraction(text: &[u8]) -> (&[u8], &[u8])
+pub fn split_fraction(text: &[u8]) -> (&[u8], &[u8])
     ensures digits { result.0.now ≡ digits_behind (fraction_in text.now) }
     ensures rest { result.1.now ≡ after_fraction text.now }
 {

@@ -50,37 +50,3 @@ fn push_last_digits(value: u64, places: u8, text: &mut Vec<u8>) -> Result<(), Al
     text.push(b'0' + (value % 10) as u8)?;
     Ok(())
 }
-
-#[cfg(test)]
-mod tests {
-    use super::*;
-    use std::test::Fail;
-
-    #[test]
-    fn numbers_have_one_text(rt: HostRuntime) -> Result<(), Fail> {
-        let mut out = Vec::new(rt.alloc());
-        for value in [0, 7, -7, 1000000000000000000, i128::MAX, i128::MIN] {
-            print_whole(value, &mut out)?;
-            out.push(b' ')?;
-        }
-        let wholes =
-            b"0 7 -7 1000000000000000000 170141183460469231731687303715884105727 -170141183460469231731687303715884105728 ";
-        assert_eq!(rt; out.as_slice(), wholes.as_slice());
-        let mut out = Vec::new(rt.alloc());
-        for (value, places) in [
-            (0, 0),
-            (7, 0),
-            (7, 2),
-            (29815, 2),
-            (100, 2),
-            (5, 9),
-            (u64::MAX, 9),
-        ] {
-            print_fixed(value, places, &mut out)?;
-            out.push(b' ')?;
-        }
-        let fixed = b"0 7 0.07 298.15 1.00 0.000000005 18446744073.709551615 ";
-        assert_eq!(rt; out.as_slice(), fixed.as_slice());
-        Ok(())
-    }
-}

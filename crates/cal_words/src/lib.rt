@@ -3,11 +3,11 @@
 
 mod commands;
 mod rules;
-#[cfg(test)]
-mod tests;
 mod texts;
+mod vocabulary;
 mod words;
 
 pub use commands::command_words;
 pub use rules::{Rule, rule_text};
+pub use vocabulary::{CommandWord, command_word};
 pub use words::{Found, Words, find, fits};

@@ -1,0 +1,11 @@
+-- claims: the functions, the piece that holds, values and their refusals, and that there is one outcome
+pub mod Functions
+pub mod Pieces
+pub mod Values
+pub mod Stops
+pub mod Outcomes
+-- workings: how far a reading has come
+pub mod Marks
+pub mod Progress
+pub mod Chains
+pub mod States
