@@ -4,8 +4,6 @@
 mod command;
 mod cutter;
 mod line;
-#[cfg(test)]
-mod tests;
 
 pub use command::{Command, CommandList};
 pub use cutter::commands;
