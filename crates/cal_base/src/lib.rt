@@ -7,8 +7,6 @@ mod memory_library;
 mod memory_sink;
 mod outside;
 mod status;
-#[cfg(test)]
-mod tests;
 mod writing;
 
 pub use fault::{Failed, LoadFault};

@@ -5,11 +5,11 @@ use Rattle.std.specs.List.{AllByRecursion, IsDistinct}
 use Rattle.std.specs.Map.{keys_of}
 use Rattle.std.proofs.lemmas.List.{length-map, take_all}
 use Rattle.std.proofs.lemmas.Map.Made.{IsDistinct-keys_filter}
-use Rattle.tdb_scan.specs.Words.{is_name}
-use Rattle.tdb_read.specs.declared.phase.PhaseText.{PhaseText}
-use Rattle.tdb_read.specs.Database.{Database}
+use Rattle.cal_scan.specs.Words.{is_name}
+use Rattle.tdb_first.specs.declared.phase.PhaseText.{PhaseText}
+use Rattle.tdb_first.specs.Database.{Database}
 use Rattle.cef_core.specs.declared.phase.PhaseAt.{PhaseAt}
-use Rattle.cef_core.specs.Names.{same_name, AreNames}
+use Rattle.cal_scan.specs.Names.{same_name, AreNames}
 use Rattle.cal_select.specs.Selection.{phase_at, phases_at, qualifies, selected}
 
 -- what holds of each key holds of each that is kept
@@ -32,7 +32,7 @@ are_phase_names : (db : Database) (element : List ℕ) (t lattice : ℕ) (phases
 are_phase_names db element t lattice phases fine distinct is some =
     let names : map (λ phase. phase.name) phases ≡ keys_of (selected db element) = ap (map (λ phase. phase.name)) is ∙ names_at db element t lattice (selected db element) in
     record {
-      some = subst (λ (n : ℕ). 0 < n) (sym (length-map phases (λ phase. phase.name))) some;
+      present = subst (λ (n : ℕ). 0 < n) (sym (length-map phases (λ phase. phase.name))) some;
       fine = rw names (All-keys_filter (λ name. is_name name ≡ true) (λ e. qualifies element e.1) db.phases fine);
       distinct = rw names (IsDistinct-keys_filter same_name (λ e. qualifies element e.1) db.phases distinct);
     }
@@ -48,4 +48,4 @@ are_passed_names db element t lattice place phases all fine distinct is some =
 -- one name
 pub is_one_name : (name : List ℕ) → is_name name ≡ true → AreNames (name ∷ [])
 unfolding IsDistinct
-is_one_name name fine = record { some = omega arith; fine = (fine, tt); distinct = (tt, tt) }
+is_one_name name fine = record { present = omega arith; fine = (fine, tt); distinct = (tt, tt) }

@@ -1,15 +1,15 @@
 -- The system of a database for one element, at t hundredths of a kelvin and on a lattice.
 use Rattle.std.specs.Prelude.{◌≡◌, ℕ, ◌*◌, ◌<◌, List, [], ◌∷◌, length, map, filter, fold, max, sum, codes, Bool, true, false, not, ◌&&◌, is_some, Option, Some, None, Result, Ok, Err, ℤ, pos, ◌+ℤ◌, ◌*ℤ◌}
 use Rattle.std.specs.Map.{lookup}
-use Rattle.cef_core.specs.Names.{same_name}
+use Rattle.cal_scan.specs.Names.{same_name}
 use Rattle.cef_core.specs.declared.kind.Kind.TheVariants.{G}
 use Rattle.cef_core.specs.declared.phase.ParamAt.{ParamAt}
 use Rattle.cef_core.specs.declared.phase.PhaseAt.{PhaseAt}
 use Rattle.cef_core.specs.declared.system.System.{System}
-use Rattle.tdb_read.specs.declared.key.Key.{Key}
-use Rattle.tdb_read.specs.declared.phase.PhaseText.{PhaseText}
-use Rattle.tdb_read.specs.declared.parameter.ParamText.{ParamText}
-use Rattle.tdb_read.specs.Database.{Database, same_key}
+use Rattle.tdb_first.specs.declared.key.Key.{Key}
+use Rattle.tdb_first.specs.declared.phase.PhaseText.{PhaseText}
+use Rattle.tdb_first.specs.declared.parameter.ParamText.{ParamText}
+use Rattle.tdb_first.specs.Database.{Database, same_key}
 use Rattle.cal_select.specs.declared.fault.SystemFault.{SystemFault}
 use Rattle.cal_select.specs.declared.fault.SystemFault.TheVariants as faults
 

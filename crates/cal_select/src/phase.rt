@@ -3,16 +3,16 @@
 ghost use Rattle.std.specs.Prelude.{◌≡◌, ◌≤◌, ◌*◌, pos, ◌*ℤ◌, ◌^◌, length, unsigned_abs, IfOk};
 ghost use Rattle.std.specs.List.{AllByRecursion};
 ghost use Rattle.std.specs.Map.{lookup};
-ghost use Rattle.tdb_read.specs.declared.phase.PhaseText.{PhaseText};
-ghost use Rattle.tdb_read.specs.Database.{same_key};
-ghost use Rattle.tdb_read.specs.Sound.{IsPhase, IsParameter};
+ghost use Rattle.tdb_first.specs.declared.phase.PhaseText.{PhaseText};
+ghost use Rattle.tdb_first.specs.Database.{same_key};
+ghost use Rattle.tdb_first.specs.Sound.{IsPhase, IsParameter};
 ghost use Rattle.cef_core.specs.Pure.{IsPure, IsReference};
 ghost use Rattle.cal_select.specs.Selection.{energy_key, micro_of, parameter_at, parameters_at, phase_at, qualifies};
 
 use cal_list::{Items, one};
 use cef_core::{Kind, Name, ParamAt, PhaseAt};
 use std::alloc::{AllocError, Global};
-use tdb_read::{Db, Key, ParamText, PhaseText};
+use tdb_first::{Db, Key, ParamText, PhaseText};
 
 /// Whether the phase's one constituent is the element.
 pub(crate) fn is_of(text: &PhaseText, element: &Name) -> bool

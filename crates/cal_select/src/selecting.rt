@@ -3,8 +3,8 @@
 ghost use Rattle.std.specs.Prelude.{◌≡◌, ◌≤◌, ◌<◌, ◌*◌, ◌^◌, length, map, true, IfOk, All, sum};
 ghost use Rattle.std.specs.Bool.{OnTrue};
 ghost use Rattle.std.specs.List.{AllByRecursion};
-ghost use Rattle.tdb_scan.specs.Words.{is_name};
-ghost use Rattle.cef_core.specs.Names.{AreNames};
+ghost use Rattle.cal_scan.specs.Words.{is_name};
+ghost use Rattle.cal_scan.specs.Names.{AreNames};
 ghost use Rattle.cef_core.specs.Pure.{IsPure};
 ghost use Rattle.cal_select.specs.Selection.{is_known, greatest_ratio, phases_at, Selects};
 
@@ -13,7 +13,7 @@ use crate::phase::{is_of, phase_of};
 use cal_list::{Items, one};
 use cef_core::{Name, PhaseAt, System};
 use std::alloc::{AllocError, Global};
-use tdb_read::Db;
+use tdb_first::Db;
 
 fn is_known_element(db: &Db, element: &Name) -> bool
     ensures known { result ≡ is_known db.now element.now }

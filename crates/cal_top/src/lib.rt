@@ -1,10 +1,10 @@
 //! A run of the program: the words are read, then the database, and what they give is written.
 #![tactic(auto)]
 
-mod answer;
+mod equilibria;
+mod refusal;
 mod reply;
 mod running;
-#[cfg(test)]
-mod tests;
+mod words;
 
 pub use running::run;

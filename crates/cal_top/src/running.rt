@@ -2,10 +2,10 @@ ghost use Rattle.std.specs.Prelude.{◌≡◌, ◌≢◌, ◌⊎◌, List, ℕ, 
 ghost use Rattle.cal_base.specs.declared.status.Status.{Status};
 ghost use Rattle.cal_base.specs.Outside.{Rose, append_told, AppendsAllBut};
 ghost use Rattle.cal_job.specs.declared.job.Job.{Job};
-ghost use Rattle.cal_top.specs.Replies.{IsAnswerable, Replied, RepliedPartly};
+ghost use Rattle.cal_top.specs.Replies.{seen, IsAnswerable, Replied, RepliedPartly};
 
-use crate::answer::answer;
 use crate::reply::Reply;
+use crate::words::answer;
 use cal_base::{Library, Sink, Status, write_all};
 use std::alloc::Global;
 
@@ -19,14 +19,19 @@ pub fn run<L: Library, K: Sink>(
 ) -> Status
     // What was appended, and why.
     ensures replied { result ≢ Status.WriteFault →
-        Replied (L.told files.old) (L.faults files.old) (L.faults files.new) (L.given files.old) (L.given files.new)
+        Replied
+        (seen (L.told files.old) (L.faults files.old) (L.faults files.new) (L.given files.old) (L.given files.new))
         (K.written out.old) (K.written out.new) (map (λ word. string_bytes word) words.now) result }
 
     // A failed write leaves a front of a reply.
     ensures write { result ≡ Status.WriteFault → Rose (K.faults out.old) (K.faults out.new) }
     ensures partly { result ≡ Status.WriteFault →
-        RepliedPartly (L.told files.old) (L.faults files.old) (L.faults files.new) (L.given files.old) (L.given files.new)
+        RepliedPartly
+        (seen (L.told files.old) (L.faults files.old) (L.faults files.new) (L.given files.old) (L.given files.new))
         (K.written out.old) (K.written out.new) (map (λ word. string_bytes word) words.now) }
+
+    // The library tells the same files as before.
+    ensures told { L.told files.new ≡ L.told files.old }
 
     // Where no cause of a refusal stands and no count rose, the run is done, or has no memory.
     ensures complete { (job : Job) (bytes : List ℕ) →

@@ -7,7 +7,8 @@ use Rattle.cef_core.specs.declared.phase.PhaseAt.{PhaseAt}
 use Rattle.cef_core.specs.declared.system.System.{System}
 use Rattle.cef_core.specs.Constitutions.{content}
 use Rattle.cef_core.specs.Energies.{energy}
-use Rattle.cef_core.specs.Certificates.{IsAbove}
+use Rattle.cef_report.specs.Certificates.{IsAbove}
+use Rattle.cef_report.proofs.Worth.{worth-one}
 use Rattle.cef_core.specs.Pure.{IsPure, ratio_of, reference_of}
 use Rattle.eq_solve.specs.Comparing.{IsNoHigher}
 use Rattle.eq_solve.proofs.Least.{pure_at}
@@ -33,4 +34,4 @@ IsAbove-from_best n m system best some all pure least below p phase counts is co
     let energy_is : energy phase counts ≡ reference_of phase.parameters = rw counts_are (pure_energy n phase (omega arith) this) in
     let ratio : 0 < ratio_of best = omega (arith, pure.ratio_low) in
     let above : (m *ℤ pos (ratio_of phase * n)) ≤ℤ (pos 65536 *ℤ reference_of phase.parameters) = plane (ratio_of best) (ratio_of phase) n m (reference_of best.parameters) (reference_of phase.parameters) ratio below (least phase p is) in
-    rw (content_is, energy_is) (omega (arith, ints, above))
+    rw (worth-one m (content phase counts), content_is, energy_is) above

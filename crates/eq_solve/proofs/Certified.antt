@@ -6,9 +6,10 @@ use Rattle.std.proofs.lemmas.Int.{ints}
 use Rattle.cal_math.specs.Whole.{le-floor, *ℤ-+ℤ, *ℤ_comm, *ℤ_left, *ℤ_assoc, *ℤ-≤, pos-*ℤ-≤}
 use Rattle.cef_core.specs.declared.phase.PhaseAt.{PhaseAt}
 use Rattle.cef_core.specs.declared.system.System.{System}
-use Rattle.cef_core.specs.declared.report.Report.{Report}
-use Rattle.cef_core.specs.Assemblages.{at}
-use Rattle.cef_core.specs.Certificates.{IsCertified, valued}
+use Rattle.cef_report.specs.declared.report.Report.{Report}
+use Rattle.cal_math.specs.Vectors.{at}
+use Rattle.cef_report.specs.Certificates.{IsCertified, worth}
+use Rattle.cef_report.proofs.Worth.{worth-one}
 use Rattle.eq_solve.specs.declared.figures.Figures.{Figures}
 use Rattle.cef_core.specs.Pure.{IsPure}
 use Rattle.eq_solve.specs.Figuring.{AreFigures, AreNumbers}
@@ -19,7 +20,7 @@ use Rattle.eq_solve.proofs.BelowPlane.{IsAbove-from_best}
 -- what the plane leaves of the energy is not below 0
 pub left_low : (c g : ℤ) (asked margin : ℤ) (f : Figures) → AreNumbers c g asked margin f → pos 0 ≤ℤ (pos 65536 *ℤ f.energy -ℤ f.potential *ℤ f.total)
 left_low c g asked margin f numbers =
-    let times : (f.amount *ℤ (c *ℤ f.potential)) ≤ℤ (f.amount *ℤ (pos 65536 *ℤ g)) = *ℤ-≤ f.amount _ _ (omega (arith, ints, numbers.some)) numbers.below in
+    let times : (f.amount *ℤ (c *ℤ f.potential)) ≤ℤ (f.amount *ℤ (pos 65536 *ℤ g)) = *ℤ-≤ f.amount _ _ (omega (arith, ints, numbers.amount_low)) numbers.below in
     let energy : pos 65536 *ℤ f.energy ≡ f.amount *ℤ (pos 65536 *ℤ g) = rw numbers.energy_is (*ℤ_left (pos 65536) f.amount g) in
     let value : f.potential *ℤ f.total ≡ f.amount *ℤ (c *ℤ f.potential) =
     rw numbers.total_is (ap (λ z. f.potential *ℤ z) (*ℤ_comm c f.amount) ∙ *ℤ_left f.potential f.amount c ∙ ap (λ z. f.amount *ℤ z) (*ℤ_comm f.potential c)) in
@@ -29,7 +30,7 @@ left_low c g asked margin f numbers =
 pub left_high : (c g : ℤ) (asked margin : ℤ) (f : Figures) → AreNumbers c g asked margin f → (pos 65536 *ℤ f.energy -ℤ f.potential *ℤ f.total) ≤ℤ (f.total *ℤ (margin +ℤ pos 1))
 left_high c g asked margin f numbers =
     let near : (pos 65536 *ℤ g) ≤ℤ (c *ℤ (f.potential +ℤ margin) +ℤ c) = omega (arith, ints, numbers.close) in
-    let times : (f.amount *ℤ (pos 65536 *ℤ g)) ≤ℤ (f.amount *ℤ (c *ℤ (f.potential +ℤ margin) +ℤ c)) = *ℤ-≤ f.amount _ _ (omega (arith, ints, numbers.some)) near in
+    let times : (f.amount *ℤ (pos 65536 *ℤ g)) ≤ℤ (f.amount *ℤ (c *ℤ (f.potential +ℤ margin) +ℤ c)) = *ℤ-≤ f.amount _ _ (omega (arith, ints, numbers.amount_low)) near in
     let energy : pos 65536 *ℤ f.energy ≡ f.amount *ℤ (pos 65536 *ℤ g) = rw numbers.energy_is (*ℤ_left (pos 65536) f.amount g) in
     let total_is : f.total ≡ f.amount *ℤ c = numbers.total_is ∙ *ℤ_comm c f.amount in
     let parts : f.amount *ℤ (c *ℤ (f.potential +ℤ margin) +ℤ c) ≡ f.total *ℤ f.potential +ℤ f.total *ℤ margin +ℤ f.total =
@@ -58,7 +59,7 @@ IsCertified-from_figures system asked margin asked_gap f r one some all within f
     let pure : IsPure n best = pure_at n system.phases f.place best all figures.is_best in
     let numbers = figures.numbers in
     let low = left_low _ _ _ _ f numbers in
-    let same : valued (f.potential ∷ []) (at (f.total ∷ [])) ≡ f.potential *ℤ f.total = omega (arith, ints) in
+    let same : worth (f.potential ∷ []) (at (f.total ∷ [])) ≡ f.potential *ℤ f.total = worth-one f.potential (at (f.total ∷ [])) in
     let tolerance : at r.asked 0 -ℤ at r.totals 0 ≡ r.tolerance = rw (reports.asked_is, reports.totals, reports.tolerance) refl in
     let none_above : at r.totals 0 ≤ℤ at r.asked 0 = rw (reports.asked_is, reports.totals) numbers.total_high in
     record {

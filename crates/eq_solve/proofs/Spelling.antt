@@ -8,12 +8,13 @@ use Rattle.std.proofs.lemmas.List.{length-map, length-replicate}
 use Rattle.std.proofs.lemmas.Option.{slice_get_within}
 use Rattle.cal_math.specs.Whole.{abs-*ℤ-le}
 use Rattle.cef_core.specs.declared.phase.PhaseAt.{PhaseAt}
-use Rattle.cef_core.specs.declared.entry.Entry.{Entry}
+use Rattle.cef_report.specs.declared.entry.Entry.{Entry}
 use Rattle.cef_core.specs.declared.system.System.{System}
-use Rattle.cef_core.specs.declared.report.Report.{Report}
-use Rattle.cef_core.specs.Lattices.{lattices, is_lattice}
-use Rattle.cef_core.specs.Names.{AreNames}
-use Rattle.cef_core.specs.Spelled.{IsNumber, IsSpelledSite, IsSpelledEntry, IsSpelledTree, leaf, IsSpelled}
+use Rattle.cef_report.specs.declared.report.Report.{Report}
+use Rattle.cef_core.specs.declared.lattice.TheConstants.{LATTICES}
+use Rattle.cef_core.specs.Lattices.{is_lattice}
+use Rattle.cal_scan.specs.Names.{AreNames}
+use Rattle.cef_report.specs.Spelled.{IsNumber, IsSpelledSite, IsSpelledEntry, IsSpelledTree, leaf, IsSpelled}
 use Rattle.eq_solve.specs.declared.figures.Figures.{Figures}
 use Rattle.cef_core.specs.Pure.{IsPure, reference_of}
 use Rattle.eq_solve.specs.Figuring.{AreFigures}
@@ -31,9 +32,9 @@ one_of n (l ∷ ls) is all = by_test (n == l) refl is (one_of n ls)
     by_test false here is behind = behind is all.1
 
 pub lattice_within : (n : ℕ) → is_lattice n ≡ true → (10 ≤ n) × (n ≤ 1000)
-lattice_within n is = one_of n lattices is within
+lattice_within n is = one_of n LATTICES is within
   where
-    within : AllByRecursion (λ l. (10 ≤ l) × (l ≤ 1000)) lattices
+    within : AllByRecursion (λ l. (10 ≤ l) × (l ≤ 1000)) LATTICES
     within = search (arith)
 
 energy_size : (amount reference : ℤ) → pos 1 ≤ℤ amount → amount ≤ℤ pos (2 ^ 50) → unsigned_abs reference ≤ 2 ^ 55 → IsNumber (amount *ℤ reference)
@@ -48,7 +49,7 @@ gap_size x gap total m low high m_low m_high below least =
     omega (arith, ints, most, below, least)
 
 single_site : (n : ℕ) → n ≤ 1000 → IsSpelledSite ((n ∷ []) ∷ [])
-single_site n most = record { some = omega arith; most = omega arith; counts = ((omega arith, (omega (arith, most), tt)), tt); most_counts = omega arith }
+single_site n most = record { present = omega arith; most = omega arith; counts = ((omega arith, (omega (arith, most), tt)), tt); most_counts = omega arith }
 
 single_entry : (n phases : ℕ) (e : Entry) → n ≤ 1000 → e.phase < phases → pos 1 ≤ℤ e.amount → e.amount ≤ℤ pos (2 ^ 50) → e.site ≡ (n ∷ []) ∷ [] → IsSpelledEntry phases e
 single_entry n phases e most within low high site = record { phase = within; amount_low = low; amount_high = high; site = rw site (single_site n most) }
@@ -80,9 +81,9 @@ IsSpelled-from_figures system asked margin f r one all t_low t_high listed eleme
       phases = rw reports.phases phases;
       asked = rw (one_element, reports.asked_is) (refl, ((asked_low, asked_high), tt));
       few_entries = rw reports.entries (omega arith);
-      entries = rw reports.entries (single_entry system.lattice (length r.phases) reports.entry lattice_most within (rw reports.entry_amount numbers.some) (rw reports.entry_amount numbers.amount_high) reports.entry_site, tt);
+      entries = rw reports.entries (single_entry system.lattice (length r.phases) reports.entry lattice_most within (rw reports.entry_amount numbers.amount_low) (rw reports.entry_amount numbers.amount_high) reports.entry_site, tt);
       totals = rw (one_element, reports.totals) (refl, (omega (arith, ints, numbers.total_low, numbers.total_high, asked_high), tt));
-      energy = rw (reports.energy, numbers.energy_is) (energy_size f.amount (reference_of best.parameters) numbers.some numbers.amount_high (reference_size system.lattice best pure));
+      energy = rw (reports.energy, numbers.energy_is) (energy_size f.amount (reference_of best.parameters) numbers.amount_low numbers.amount_high (reference_size system.lattice best pure));
       tolerance_low = rw reports.tolerance (omega (arith, ints, numbers.total_high));
       tolerance_high = rw reports.tolerance (omega (arith, ints, numbers.total_low, asked_high));
       gap_low = rw reports.gap gap_low;

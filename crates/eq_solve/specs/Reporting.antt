@@ -1,10 +1,11 @@
 -- The report of one entry.
-use Rattle.std.specs.Prelude.{◌≡◌, [], ◌∷◌, length, map, replicate, ℤ, pos, ◌-ℤ◌}
+use Rattle.std.specs.Prelude.{◌≡◌, [], ◌∷◌, length, map, replicate, ℤ, pos, ◌-ℤ◌, ◌<ℤ◌}
 use Rattle.cef_core.specs.declared.system.System.{System}
-use Rattle.cef_core.specs.declared.entry.Entry.{Entry}
-use Rattle.cef_core.specs.declared.report.Report.{Report}
+use Rattle.cef_report.specs.declared.entry.Entry.{Entry}
+use Rattle.cef_report.specs.declared.report.Report.{Report}
 use Rattle.cef_core.specs.declared.tree.Tree.{Tree}
 use Rattle.cef_core.specs.declared.tree.Node.TheVariants.{Leaf}
+use Rattle.cef_report.specs.Assemblages.{content_of}
 use Rattle.eq_solve.specs.declared.figures.Figures.{Figures}
 
 -- a tree of one leaf with the multiplier 0
@@ -28,3 +29,9 @@ pub record Reports (system : System) (asked : ℤ) (f : Figures) (report : Repor
   pub gap : report.gap ≡ f.gap
   pub potentials : report.potentials ≡ f.potential ∷ []
   pub trees : report.trees ≡ replicate (length system.phases) single_leaf
+
+-- one entry, and what is left of what was asked is less than one more nmol of it holds
+pub record IsNear (system : System) (report : Report) : Type 0 where
+  pub entry : Entry
+  pub only : report.entries ≡ entry ∷ []
+  pub left : report.tolerance <ℤ content_of system entry 0

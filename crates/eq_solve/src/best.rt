@@ -19,7 +19,7 @@ fn is_below(a: &PhaseAt, b: &PhaseAt, lattice: u32) -> bool
 
 /// The place of the first phase of least energy for its content.
 pub(crate) fn best(phases: &[PhaseAt], lattice: u32) -> usize
-    requires some { 0 < length phases.now }
+    requires not_empty { 0 < length phases.now }
     requires pure { All (IsPure lattice) phases.now }
     ensures within { result < length phases.now }
     ensures least { (a b : PhaseAt) (k : ℕ) → slice_get phases.now result ≡ Some a → slice_get phases.now k ≡ Some b → IsNoHigher a b }

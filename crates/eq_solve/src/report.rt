@@ -1,10 +1,12 @@
 ghost use Rattle.std.specs.Prelude.{◌≡◌, ℕ, ◌≤◌, ◌^◌, pos, ◌≤ℤ◌, map, replicate, IfOk, length, ◌∷◌, []};
+ghost use Rattle.cal_limits.specs.declared.TheConstants.{MOST_ASKED};
 ghost use Rattle.cef_core.specs.declared.system.System.{System};
 ghost use Rattle.eq_solve.specs.Reporting.{Reports, single_leaf};
 
 use crate::figures::Figures;
 use cal_list::{Items, one};
-use cef_core::{Entry, Name, Node, PhaseAt, Report, Site, System, Tree};
+use cef_core::{Name, Node, PhaseAt, Site, System, Tree};
+use cef_report::{Entry, Report};
 use std::alloc::{AllocError, Global};
 
 fn names_of(alloc: Global, phases: &[PhaseAt]) -> Result<Items<Name>, AllocError>
@@ -68,7 +70,7 @@ pub(crate) fn report_of(
     figures: Figures,
 ) -> Result<Report, AllocError>
     requires lattice { system.now.lattice ≤ 1000 }
-    requires asked_high { asked ≤ℤ pos (2 ^ 50) }
+    requires asked_high { asked ≤ℤ pos MOST_ASKED }
     requires total_low { pos 0 ≤ℤ figures.total }
     requires total_high { figures.total ≤ℤ asked }
     ensures { IfOk result (λ r. Reports system.now asked figures r) }

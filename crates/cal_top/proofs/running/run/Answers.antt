@@ -1,8 +1,7 @@
-use Rattle.std.proofs.Common.{◌≡◌, subst, sym, inl, inr}
-use Rattle.std.specs.Prelude.{◌⊎◌}
-use Rattle.cal_base.specs.declared.status.Status.{Status}
-use Rattle.cal_base.specs.declared.status.Status.TheVariants.{Done, Memory}
-use Rattle.cal_top.proofs.Complete.{done_or_memory, is_write_fault}
+use Rattle.std.proofs.Common.{◌≡◌, sym, ◌∙◌, inl, inr}
+use Rattle.cal_base.specs.declared.status.Status.TheVariants.{Done}
+use Rattle.cal_top.specs.Replies.{seen}
+use Rattle.cal_top.proofs.Complete.{done, is_write_fault, not_write_fault}
 use Rattle.cal_top.proofs.running.run.Goals as goal
 
 pub returns-in-Ok-clause-complete : goal.returns-in-Ok-clause-complete
@@ -11,5 +10,10 @@ returns-in-Ok-clause-complete g c = λ job bytes is no_read no_write.
       | inl fault ↦ absurd (no_write (c.write.ensures.write fault).0)
       | inr fine ↦
           let same : c.write.result ≡ c.in-Ok.reply.status = (c.write.ensures.ok fine).0 in
-          subst (λ (s : Status). (s ≡ Done) ⊎ (s ≡ Memory)) (sym same) (done_or_memory _ _ _ _ _ _ job bytes c.in-Ok.reply.status c.in-Ok.reply.text.items is no_read c.in-Ok.ensures)
+          inl (same ∙ done (seen (g.L.Library.told c.args.files.now) _ _ _ _) _ job bytes c.in-Ok.reply.status c.in-Ok.reply.text.items is no_read c.in-Ok.ensures.reply)
     ]
+
+pub returns-in-Ok-clause-replied : goal.returns-in-Ok-clause-replied
+returns-in-Ok-clause-replied g c = λ fine.
+    let done = c.write.ensures.ok fine in
+    rw done.0 (record { printed = c.in-Ok.reply.text.items; why = inl c.in-Ok.ensures.reply; appended = done.1 })

@@ -5,7 +5,7 @@ use Rattle.eq_solve.proofs.best.best.Goals as goal
 use Rattle.eq_solve.proofs.best.best.Goals.{then-is_below, else-is_below}
 
 pub loop-i-init : goal.loop-i-init
-loop-i-init c = IsLeastBelow-one _ c.requires.some
+loop-i-init c = IsLeastBelow-one _ c.requires.not_empty
 
 pub loop-i-preserved : goal.loop-i-preserved
 loop-i-preserved c =

@@ -4,7 +4,7 @@ use Rattle.std.specs.Prelude.{pos, ◌+ℤ◌, ◌*ℤ◌, ◌≤ℤ◌}
 use Rattle.std.proofs.lemmas.Int.{ints, to_z-of_z}
 use Rattle.eq_solve.specs.Figuring.{AreFigures}
 use Rattle.eq_solve.specs.Reporting.{Reports}
-use Rattle.eq_solve.proofs.Holding.{Holds-from_figures}
+use Rattle.eq_solve.proofs.Holding.{Holds-from_figures, IsNear-from_figures}
 use Rattle.eq_solve.proofs.Certified.{IsCertified-from_figures}
 use Rattle.eq_solve.proofs.Spelling.{lattice_within, IsSpelled-from_figures}
 use Rattle.eq_solve.proofs.solving.equilibrium.Goals as goal
@@ -39,3 +39,11 @@ returns-clause-spelled c =
     let margin_high : c.from-margin.result ≤ℤ pos (2 ^ 60) = rw c.from-margin.ensures (omega (arith, ints, c.margin_of.ensures.size)) in
     IsSpelled-from_figures c.args.system.now c.args.asked c.from-margin.result c.figures_of-figures.result c.in_ok-report.report c.requires.one_element c.requires.pure
     c.requires.temperature_low c.requires.temperature_high c.requires.lattice c.requires.elements c.requires.phases asked_low c.requires.asked_high margin_low margin_high figures reports
+
+pub returns-clause-near : goal.returns-clause-near
+returns-clause-near c =
+    let fits_asked = c.ranges.asked in
+    let fits_margin : SFits w128 c.from-margin.result = search rules in
+    let figures : AreFigures c.args.system.now.phases c.args.system.now.lattice c.args.asked c.from-margin.result c.figures_of-figures.result = rw (← c.as_slice.ensures) (simp to_z-of_z at c.figures_of-figures.ensures) in
+    let reports : Reports c.args.system.now c.args.asked c.figures_of-figures.result c.in_ok-report.report = simp to_z-of_z at c.in_ok-report.ensures in
+    IsNear-from_figures c.args.system.now c.args.asked c.from-margin.result c.figures_of-figures.result c.in_ok-report.report c.requires.pure figures reports

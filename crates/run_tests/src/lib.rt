@@ -1,0 +1,9 @@
+//! Tests of a run and of what it has of the outside.
+#![tactic(auto)]
+
+#[cfg(test)]
+mod disk;
+#[cfg(test)]
+mod outside;
+#[cfg(test)]
+mod runs;
