@@ -1,4 +1,5 @@
 ghost use Rattle.std.specs.Prelude.{◌≡◌, ◌<◌, ◌≤◌, ◌+◌, ◌^◌, ◌⊎◌, List, ℕ, length, Err, IfOk, IsErr, IsErrOf, vec_len};
+ghost use Rattle.cal_limits.specs.declared.TheConstants.{MOST_REPORT_BYTES};
 ghost use Rattle.cal_base.specs.Outside.{TellsFile, LacksFile, Rose, Raised, IsFront};
 
 use crate::fault::LoadFault;
@@ -43,7 +44,7 @@ pub fn load<L: Library>(
     name: &str,
     limit: u64,
 ) -> Result<Vec<u8>, LoadFault>
-    requires { limit ≤ 2 ^ 28 }
+    requires { limit ≤ MOST_REPORT_BYTES }
     ensures told { L.told files.new ≡ L.told files.old }
 
     ensures bytes { IfOk result (λ v. (all : List ℕ) → TellsFile (L.told files.old) name.now all → v.items ≡ all) }

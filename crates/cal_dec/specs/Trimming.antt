@@ -42,25 +42,6 @@ tenth_of n k = div-div-eq-div-mul n (10 ^ k) 10 ∙ ap (λ p. n / p) (sym (pow-s
     next : (k : ℕ) → suc k ≡ k + 1
     next k = omega arith
 
--- several digits at once
-pub digits_over_cut : (k n : ℕ) → 10 ^ (17 + k) ≤ n → n < 10 ^ 64 → digits_over n ≡ digits_over (n / 10 ^ k) + k
-digits_over_cut zero n h small = ap digits_over (sym (ap (λ p. n / p) (pow-zero 10) ∙ div-one n)) ∙ none (digits_over (n / 10 ^ 0))
-  where
-    none : (d : ℕ) → d ≡ d + 0
-    none d = omega arith
-digits_over_cut (suc k) n h small =
-    let large : 10 ^ 18 ≤ n = omega (arith, h, ten-pow-le 18 (17 + suc k) (omega arith)) in
-    let tenth : 10 ^ (17 + k) ≤ n / 10 = le-div (10 ^ (17 + k)) n 10 (omega arith) (omega (arith, h, ap (λ e. 10 ^ e) (next k), pow-suc 10 (17 + k))) in
-    let rest = digits_over_cut k (n / 10) tenth (omega (arith, small, div-le_self n 10)) in
-    let same : n / 10 / 10 ^ k ≡ n / 10 ^ suc k = div-div-eq-div-mul n 10 (10 ^ k) ∙ ap (λ p. n / p) (mul_comm 10 (10 ^ k) ∙ sym (pow-suc 10 k)) in
-    omega (arith, digits_over_large n large small, rest, ap digits_over same)
-  where
-    next : (k : ℕ) → 17 + suc k ≡ suc (17 + k)
-    next k = omega arith
-
-pub cut_of : (n j k : ℕ) → n / 10 ^ j / 10 ^ k ≡ n / 10 ^ (j + k)
-cut_of n j k = div-div-eq-div-mul n (10 ^ j) (10 ^ k) ∙ ap (λ p. n / p) (sym (pow-add 10 j k))
-
 -- the digits that are left begin with the first digit of the number
 pub first_digit : (n : ℕ) → 0 < n → n < 10 ^ 64 → 10 ^ digits_over n ≤ n
 unfolding digits_over

@@ -35,7 +35,7 @@ fn floor_of(a: Dec, places: u32) -> i128
     ensures small { unsigned_abs result ≤ 10 ^ 18 }
 {
     if places < 18 {
-        (a.mantissa as i128).div_euclid(power_of_ten(places) as i128)
+        a.mantissa.div_euclid(small_power_of_ten(places) as i64) as i128
     } else if a.mantissa < 0 {
         -1
     } else {
@@ -66,11 +66,10 @@ fn bounded_multiple(number: u64, places: u32) -> Option<u128>
     if places > 27 {
         return None;
     }
-    let power = power_of_ten(places);
-    if number as u128 > LARGEST / power {
-        return None;
+    match (number as u128).checked_mul(power_of_ten(places)) {
+        Some(multiple) if multiple <= LARGEST => Some(multiple),
+        _ => None,
     }
-    Some(number as u128 * power)
 }
 
 fn signed_wide(negative: bool, magnitude: u128) -> i128
@@ -82,6 +81,15 @@ fn signed_wide(negative: bool, magnitude: u128) -> i128
     } else {
         magnitude as i128
     }
+}
+
+fn small_power_of_ten(places: u32) -> u64
+    requires { places ≤ 17 }
+    ensures power { result ≡ 10 ^ places }
+    ensures least { 0 < result }
+    ensures greatest { result ≤ 10 ^ 17 }
+{
+    10u64.pow(places)
 }
 
 fn power_of_ten(places: u32) -> u128

@@ -26,38 +26,6 @@ pub fn signed(negative: bool, magnitude: u64) -> i64
     }
 }
 
-/// A number of more than 18 digits without some of its last ones.
-#[derive(Clone, Copy)]
-struct Shorter {
-    number: u128,
-    places: u16,
-}
-
-/// Drops as many digits at once as leave 18 or more: nine, four or one.
-fn dropped_from(number: u128) -> Shorter
-    requires { 10 ^ 18 ≤ number }
-    ensures number { result.number ≡ number / 10 ^ result.places }
-    ensures over { digits_over number ≡ digits_over result.number + result.places }
-    ensures some_places { 0 < result.places }
-{
-    if number >= LIMIT * 100_000_000 {
-        Shorter {
-            number: number / 1_000_000_000,
-            places: 9,
-        }
-    } else if number >= LIMIT * 1000 {
-        Shorter {
-            number: number / 10000,
-            places: 4,
-        }
-    } else {
-        Shorter {
-            number: number / 10,
-            places: 1,
-        }
-    }
-}
-
 /// The first digits of a number, and how many are dropped.
 pub fn leading(number: u128) -> FirstDigits
     ensures dropped { result.dropped ≡ digits_over number }
@@ -68,9 +36,8 @@ pub fn leading(number: u128) -> FirstDigits
     let mut magnitude = number;
     let mut dropped = 0;
     'digits: while magnitude >= LIMIT {
-        let cut = dropped_from(magnitude);
-        magnitude = cut.number;
-        dropped += cut.places;
+        magnitude /= 10;
+        dropped += 1;
     }
     FirstDigits {
         magnitude: magnitude as u64,

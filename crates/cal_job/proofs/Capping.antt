@@ -1,12 +1,14 @@
 -- Numbers up to the cap.
-use Rattle.std.proofs.Common.{◌≡◌, ℕ, ◌+◌, ◌-◌, ◌*◌, ◌^◌, ◌≤◌, ◌<◌, List, length, min, sym, ap, ◌∙◌, Option, Some, None, arith}
-use Rattle.std.specs.Option.{option_map}
+use Rattle.std.proofs.Common.{◌≡◌, ℕ, ◌+◌, ◌-◌, ◌*◌, ◌^◌, ◌≤◌, ◌<◌, List, length, min, sym, ap, ◌∙◌, Option, Some, None, true, false, refl, arith}
+use Rattle.std.specs.Option.{option_map, option_and_then}
+use Rattle.std.proofs.lemmas.Bool.Decides.{nat_tests}
 use Rattle.std.proofs.Math.Nat.{pow-le-pow_right, mul-le-mul}
 use Rattle.cal_scan.specs.Numbers.{digits_value}
 use Rattle.cal_scan.proofs.Values.{capped_through, one_below}
 use Rattle.cal_job.specs.declared.number.TheConstants.{CAP}
 use Rattle.cal_job.specs.Capped.{capped}
-use Rattle.cal_job.specs.Forms.{in_units}
+use Rattle.cal_job.specs.declared.option.NumberForm.{NumberForm}
+use Rattle.cal_job.specs.Forms.{in_units, is_between, within}
 
 -- a power of ten of at most nine zeros, and a capped value times it
 pub power_small : (n : ℕ) → n ≤ 9 → 10 ^ n ≤ 10 ^ 9
@@ -29,21 +31,38 @@ units_capped places whole fraction w f result w_is f_is is =
     let second : min CAP (f * q + d * p) ≡ min CAP (e * q + d * p) = ap (λ (n : ℕ). min CAP (n * q + d * p)) f_is ∙ capped_through CAP e q (d * p) (one_below (places - length fraction)) in
     is ∙ first ∙ ap (min CAP) (turned (f * q)) ∙ second ∙ ap (min CAP) (sym (turned (e * q)))
 
-uncapped : (m n : ℕ) → n ≡ capped m → n < CAP → m ≡ n
-unfolding capped
-uncapped m n e lt = omega (arith, e, lt)
-
 capped_below : (n : ℕ) → n ≤ CAP → capped n ≡ n
 unfolding capped
 capped_below n le = omega (arith, le)
 
--- below the cap nothing is lost
-pub below_cap : (o : Option ℕ) (n : ℕ) → Some n ≡ option_map capped o → n < CAP → o ≡ Some n
-below_cap None n e lt = cc
-below_cap (Some m) n e lt = let same : n ≡ capped m = cc in ap Some (uncapped m n same lt)
+pub uncapped : (m n : ℕ) → n ≡ capped m → n < CAP → m ≡ n
+unfolding capped
+uncapped m n e lt = omega (arith, e, lt)
 
-pub same_below_cap : (o : Option ℕ) (n m : ℕ) → Some n ≡ option_map capped o → o ≡ Some m → m < CAP → n ≡ m
-same_below_cap o n m e is lt =
-    let made : Some n ≡ Some (capped m) = e ∙ ap (option_map capped) is in
+-- ---- a number within its form's range
+
+too_low : (least most n m : ℕ) → n ≡ capped m → most < CAP → n < least → is_between least most m ≡ false
+unfolding capped
+too_low least most n m is fits lt = grind (arith, nat_tests)
+
+too_high : (least most n m : ℕ) → n ≡ capped m → most < n → is_between least most m ≡ false
+unfolding capped
+too_high least most n m is lt = grind (arith, nat_tests)
+
+between : (least most n : ℕ) → least ≤ n → n ≤ most → is_between least most n ≡ true
+between least most n low high = grind (arith, nat_tests)
+
+pub none_low : (form : NumberForm) (o : Option ℕ) (n : ℕ) → Some n ≡ option_map capped o → form.most < CAP → n < form.least → option_and_then (within form) o ≡ None
+none_low form None n e fits lt = refl
+none_low form (Some m) n e fits lt = let same : n ≡ capped m = cc in rw (too_low form.least form.most n m same fits lt) refl
+
+pub none_high : (form : NumberForm) (o : Option ℕ) (n : ℕ) → Some n ≡ option_map capped o → form.most < n → option_and_then (within form) o ≡ None
+none_high form None n e lt = refl
+none_high form (Some m) n e lt = let same : n ≡ capped m = cc in rw (too_high form.least form.most n m same lt) refl
+
+pub some_within : (form : NumberForm) (o : Option ℕ) (n : ℕ) → Some n ≡ option_map capped o → form.most < CAP → form.least ≤ n → n ≤ form.most → option_and_then (within form) o ≡ Some n
+some_within form None n e fits low high = absurd cc
+some_within form (Some m) n e fits low high =
     let same : n ≡ capped m = cc in
-    same ∙ capped_below m (omega (arith, lt))
+    let is : m ≡ n = uncapped m n same (omega (arith, fits, high)) in
+    rw (is, between form.least form.most n low high) refl

@@ -1,15 +1,13 @@
 -- The words of a command have one reading.
-use Rattle.std.proofs.Common.{◌≡◌, ℕ, ◌*◌, ◌%◌, List, [], ◌∷◌, map, length, codes, Bool, true, false, cond, Option, Some, None, refl, sym, ap, subst, ◌∙◌, arith}
+use Rattle.std.proofs.Common.{◌≡◌, ℕ, ◌*◌, ◌%◌, List, [], ◌∷◌, map, length, codes, true, false, Option, Some, None, refl, sym, ap, subst, ◌∙◌, arith}
 use Rattle.std.specs.List.{list_all}
 use Rattle.std.proofs.lemmas.List.{length-map}
 use Rattle.std.specs.Cmp.Lexicographic.{same_text, other_text}
-use Rattle.std.specs.Option.{option_map}
-use Rattle.cal_scan.specs.Words.{same_word, is_name}
-use Rattle.cal_job.specs.declared.job.Job.{Job}
-use Rattle.cal_job.specs.declared.option.TheConstants.{AMOUNTS, AMOUNT_DECIMALS}
-use Rattle.cal_job.specs.Forms.{upper, fixed_of, item_from, item_of}
-use Rattle.cal_job.proofs.Pairing.{Only, only}
-use Rattle.cal_job.specs.Saying.{Word, is_plain, spelling, values_of, Asks, Says, SameJob}
+use Rattle.cal_scan.specs.Words.{same_word}
+use Rattle.cal_job.specs.declared.request.Request.{Request}
+use Rattle.cal_job.proofs.Items.{some_one, front_list}
+use Rattle.cef_core.specs.declared.job.Job.{Job}
+use Rattle.cal_job.specs.Saying.{Word, is_plain, spelling, GivesAmounts, one_or_none, Asks, Says, SameRequest}
 
 pair_one : (p q : Word × Word) → p.0 ≡ q.0 → p.1 ≡ q.1 → p ≡ q
 pair_one (a, b) (c, d) first second = cc
@@ -39,27 +37,27 @@ behind_word word other xs ys e = cc
 front_word : (word other : Word) (xs ys : List Word) → word ∷ xs ≡ other ∷ ys → word ≡ other
 front_word word other xs ys e = cc
 
-pub record Reads (ps : List (Word × Word)) (job : Job) : Type 0 where
+pub record Reads (ps : List (Word × Word)) (request : Request) : Type 0 where
   pub plain : list_all is_plain ps ≡ true
-  pub asked : Asks ps job
+  pub asked : Asks ps request
 
 -- what the words say is what their pairs ask for
-pub says_reads : (words : List Word) (ps : List (Word × Word)) (job : Job) → words ≡ spelling ps → Says (codes "equilibrium" ∷ words) job → Reads ps job
-says_reads words ps job is says =
+pub says_reads : (words : List Word) (ps : List (Word × Word)) (request : Request) → words ≡ spelling ps → Says (codes "equilibrium" ∷ words) request → Reads ps request
+says_reads words ps request is says =
     let same : says.pairs ≡ ps = spelling_one says.pairs ps (sym (behind_word _ _ _ _ says.spelled) ∙ is) in
-    let read : Reads says.pairs job = record { plain = says.plain; asked = says.asked } in
-    subst (λ (qs : List (Word × Word)). Reads qs job) same read
+    let read : Reads says.pairs request = record { plain = says.plain; asked = says.asked } in
+    subst (λ (qs : List (Word × Word)). Reads qs request) same read
 
 -- an odd number of words says nothing
-pub odd_says : {X : Type 0} (f : X → Word) (words : List X) (job : Job) → (length words % 2 ≡ 0 → ⊥) → Says (codes "equilibrium" ∷ map f words) job → ⊥
-odd_says f words job odd says =
+pub odd_says : {X : Type 0} (f : X → Word) (words : List X) (request : Request) → (length words % 2 ≡ 0 → ⊥) → Says (codes "equilibrium" ∷ map f words) request → ⊥
+odd_says f words request odd says =
     let same : map f words ≡ spelling says.pairs = behind_word _ _ _ _ says.spelled in
     let long : length words ≡ 2 * length says.pairs = sym (length-map words f) ∙ ap length same ∙ spelling_even says.pairs in
     odd (omega (arith, long))
 
-pub other_command : (words rest : List Word) (word : Word) (job : Job) → words ≡ word ∷ rest → false ≡ same_word word (codes "equilibrium") → Says words job → ⊥
+pub other_command : (words rest : List Word) (word : Word) (request : Request) → words ≡ word ∷ rest → false ≡ same_word word (codes "equilibrium") → Says words request → ⊥
 unfolding same_word
-other_command words rest word job is other says = other_text word (codes "equilibrium") other (front_word word _ rest _ (sym is ∙ says.spelled))
+other_command words rest word request is other says = other_text word (codes "equilibrium") other (front_word word _ rest _ (sym is ∙ says.spelled))
 
 pub command_is : (words rest : List Word) (word : Word) → words ≡ word ∷ rest → true ≡ same_word word (codes "equilibrium") → words ≡ codes "equilibrium" ∷ rest
 unfolding same_word
@@ -68,46 +66,36 @@ command_is words rest word is same = is ∙ ap (λ (w : Word). w ∷ rest) (same
 value_one : {A : Type 0} (vs : List (Option A)) (x y : A) → vs ≡ Some x ∷ [] → vs ≡ Some y ∷ [] → x ≡ y
 value_one vs x y is other = let same : Some x ∷ [] ≡ Some y ∷ [] = sym is ∙ other in cc
 
-asks_one : (ps : List (Word × Word)) (job other : Job) → Asks ps job → Asks ps other → SameJob job other
-asks_one ps job other is o =
-    let item : (job.element, job.amount) ≡ (other.element, other.amount) = value_one _ _ _ is.amount o.amount in
+items_one : (values : List Word) (elements others : List Word) (amounts numbers : List ℕ) (one : GivesAmounts values elements amounts) (two : GivesAmounts values others numbers) → one.items ≡ two.items
+items_one values elements others amounts numbers one two =
+    some_one one.items two.items (front_list _ _ [] [] (sym one.written ∙ two.written))
+
+list_one : (p q : Option (List Word)) → one_or_none p ≡ one_or_none q → p ≡ q
+list_one None None e = refl
+list_one None (Some ys) e = absurd cc
+list_one (Some xs) None e = absurd cc
+list_one (Some xs) (Some ys) e = cc
+
+job_one : (job other : Job) → job.t ≡ other.t → job.lattice ≡ other.lattice → job.elements ≡ other.elements → job.phases ≡ other.phases → job ≡ other
+job_one job other t lattice elements phases =
+    let made : ℕ → ℕ → List Word → Option (List Word) → Job = λ a b c d. record { t = a; lattice = b; elements = c; phases = d } in
+    let same : made job.t job.lattice job.elements job.phases ≡ made other.t other.lattice other.elements other.phases = cc in
+    same
+
+asks_one : (ps : List (Word × Word)) (request other : Request) → Asks ps request → Asks ps other → SameRequest request other
+asks_one ps request other is o =
+    let items : is.amounts.items ≡ o.amounts.items = items_one _ _ _ _ _ is.amounts o.amounts in
     record {
       database = front_word _ _ [] [] (sym is.database ∙ o.database);
-      t = value_one _ _ _ is.t o.t;
-      element = ap (λ (i : Word × ℕ). i.0) item;
-      amount = ap (λ (i : Word × ℕ). i.1) item;
-      lattice = value_one _ _ _ is.lattice o.lattice;
+      job = job_one request.job other.job (value_one _ _ _ is.t o.t) (value_one _ _ _ is.lattice o.lattice)
+          (is.amounts.elements_are ∙ ap (map (λ item. item.0)) items ∙ sym o.amounts.elements_are) (list_one _ _ (sym is.phases ∙ o.phases));
+      amounts = is.amounts.amounts_are ∙ ap (map (λ item. item.1)) items ∙ sym o.amounts.amounts_are;
       gap = value_one _ _ _ is.gap o.gap;
       budget = value_one _ _ _ is.budget o.budget;
     }
 
--- the words say one job at most
-pub Says_one : (words : List Word) (job other : Job) → Says words job → Says words other → SameJob job other
-Says_one words job other is o =
+-- the words say one request at most
+pub Says_one : (words : List Word) (request other : Request) → Says words request → Says words other → SameRequest request other
+Says_one words request other is o =
     let same : o.pairs ≡ is.pairs = spelling_one o.pairs is.pairs (behind_word _ _ _ _ (sym o.spelled ∙ is.spelled)) in
-    asks_one is.pairs job other is.asked (subst (λ (ps : List (Word × Word)). Asks ps other) same o.asked)
-
--- the element of an item is a name
-item_from_name : (parts : List Word) (item : Word × ℕ) → item_from parts ≡ Some item → is_name item.0 ≡ true
-item_from_name [] item e = absurd cc
-item_from_name (name ∷ []) item e = absurd cc
-item_from_name (name ∷ number ∷ []) item e = by_test (is_name (upper name)) refl e
-  where
-    by_number : (o : Option ℕ) → is_name (upper name) ≡ true → option_map (λ n. (upper name, n)) o ≡ Some item → is_name item.0 ≡ true
-    by_number None is made = absurd cc
-    by_number (Some n) is made = let same : (upper name, n) ≡ item = cc in subst (λ (i : Word × ℕ). is_name i.0 ≡ true) same is
-
-    by_test : (b : Bool) → is_name (upper name) ≡ b → cond b (option_map (λ n. (upper name, n)) (fixed_of AMOUNT_DECIMALS number)) None ≡ Some item → is_name item.0 ≡ true
-    by_test true is made = by_number (fixed_of AMOUNT_DECIMALS number) is made
-    by_test false is made = absurd cc
-item_from_name (name ∷ number ∷ more ∷ parts) item e = absurd cc
-
-item_name : (text : Word) (item : Word × ℕ) → item_of text ≡ Some item → is_name item.0 ≡ true
-unfolding item_of
-item_name text item e = item_from_name _ item e
-
--- the element that words say is a name
-pub Says_name : (words : List Word) (job : Job) → Says words job → is_name job.element ≡ true
-Says_name words job says =
-    let one : Only item_of (values_of AMOUNTS.now says.pairs) (Some (job.element, job.amount)) = only item_of _ _ says.asked.amount in
-    item_name one.element (job.element, job.amount) one.gives
+    asks_one is.pairs request other is.asked (subst (λ (ps : List (Word × Word)). Asks ps other) same o.asked)

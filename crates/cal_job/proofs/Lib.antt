@@ -1,3 +1,5 @@
 pub mod Capping
 pub mod Pairing
+pub mod Items
+pub mod Listing
 pub mod Commands

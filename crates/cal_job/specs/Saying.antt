@@ -1,19 +1,19 @@
 -- What the words of a command line say.
-use Rattle.std.specs.Prelude.{◌≡◌, ℕ, ◌≤◌, List, [], ◌∷◌, map, filter, codes, Bool, true, false, not, ◌&&◌, ◌==◌, string_bytes, Option, Some}
+use Rattle.std.specs.Prelude.{◌≡◌, ℕ, List, [], ◌∷◌, map, filter, codes, Bool, true, false, not, ◌&&◌, ◌==◌, string_bytes, Option, Some, None}
 use Rattle.std.specs.List.{list_all, list_any}
 use Rattle.cal_scan.specs.Words.{same_word}
 use Rattle.cal_scan.specs.declared.byte.TheConstants.{MINUS}
-use Rattle.cef_core.specs.Lattices.{is_lattice}
-use Rattle.cal_limits.specs.declared.TheConstants.{LOWEST_TEMPERATURE, HIGHEST_TEMPERATURE, LEAST_NANOMOLES, MOST_NANOMOLES, FEWEST_PARTS, MOST_PARTS, LEAST_GAP, MOST_GAP, MOST_BUDGET}
-use Rattle.cal_job.specs.declared.option.TheConstants.{DATABASE, TEMPERATURE, TEMPERATURE_DECIMALS, AMOUNTS, LATTICE, GAP, GAP_DECIMALS, BUDGET}
-use Rattle.cal_job.specs.declared.job.Job.{Job}
-use Rattle.cal_job.specs.Forms.{fixed_of, item_of}
+use Rattle.cal_job.specs.declared.option.NumberForm.{NumberForm}
+use Rattle.cal_job.specs.declared.option.TheConstants.{DATABASE, TEMPERATURE, TEMPERATURE_FORM, AMOUNTS, LATTICE, LATTICE_FORM, GAP, GAP_FORM, BUDGET, BUDGET_FORM, PHASES}
+use Rattle.cal_job.specs.declared.request.Request.{Request}
+use Rattle.cal_job.specs.Forms.{number_of, items_of, listed_in}
+use Rattle.cal_job.specs.Requests.{IsRequest}
 
 abbrev pub Word : Type 0
 Word = List ℕ
 
 abbrev pub options : List Word
-options = DATABASE.now ∷ TEMPERATURE.now ∷ AMOUNTS.now ∷ LATTICE.now ∷ GAP.now ∷ BUDGET.now ∷ []
+options = DATABASE.now ∷ TEMPERATURE.now ∷ AMOUNTS.now ∷ LATTICE.now ∷ GAP.now ∷ BUDGET.now ∷ PHASES.now ∷ []
 
 abbrev pub is_option : Word → Bool
 is_option word = list_any (same_word word) options
@@ -36,52 +36,44 @@ spelling (pair ∷ pairs) = pair.0 ∷ pair.1 ∷ spelling pairs
 unfoldable pub values_of : Word → List (Word × Word) → List Word
 values_of option pairs = map (λ pair. pair.1) (filter (λ pair. same_word pair.0 option) pairs)
 
--- the numbers of at most so many decimals, and the items, that the values behind an option write
-abbrev pub numbers_of : ℕ → Word → List (Word × Word) → List (Option ℕ)
-numbers_of decimals option pairs = map (fixed_of decimals) (values_of option pairs)
+-- the numbers that the values behind an option write
+abbrev pub numbers_of : NumberForm → Word → List (Word × Word) → List (Option ℕ)
+numbers_of form option pairs = map (number_of form) (values_of option pairs)
 
-abbrev pub items_of : Word → List (Word × Word) → List (Option (Word × ℕ))
-items_of option pairs = map item_of (values_of option pairs)
+-- one value stands there, and its items are these elements with these amounts
+pub record GivesAmounts (values : List Word) (elements : List Word) (amounts : List ℕ) : Type 0 where
+  pub items : List (Word × ℕ)
+  pub written : map items_of values ≡ map (λ item. Some item) items ∷ []
+  pub elements_are : elements ≡ map (λ item. item.0) items
+  pub amounts_are : amounts ≡ map (λ item. item.1) items
 
-abbrev pub IsBetween : ℕ → ℕ → ℕ → Type 0
-IsBetween least most n = (least ≤ n) × (n ≤ most)
+-- none, or one
+abbrev pub one_or_none : Option (List Word) → List (List Word)
+one_or_none None = []
+one_or_none (Some names) = names ∷ []
 
--- the ranges of the numbers of a job
-pub record InRange (job : Job) : Type 0 where
-  pub t_low : LOWEST_TEMPERATURE ≤ job.t
-  pub t_high : job.t ≤ HIGHEST_TEMPERATURE
-  pub amount_low : LEAST_NANOMOLES ≤ job.amount
-  pub amount_high : job.amount ≤ MOST_NANOMOLES
-  pub lattice_low : FEWEST_PARTS ≤ job.lattice
-  pub lattice_high : job.lattice ≤ MOST_PARTS
-  pub lattice_listed : is_lattice job.lattice ≡ true
-  pub gap_low : LEAST_GAP ≤ job.gap
-  pub gap_high : job.gap ≤ MOST_GAP
-  pub budget_high : job.budget ≤ MOST_BUDGET
+-- what the pairs ask for: each option stands exactly once, but `--phases`, which may be left out; and its value, read in its form, is the request's
+pub record Asks (pairs : List (Word × Word)) (request : Request) : Type 0 where
+  pub database : values_of DATABASE.now pairs ≡ string_bytes request.database ∷ []
+  pub t : numbers_of TEMPERATURE_FORM TEMPERATURE.now pairs ≡ Some request.job.t ∷ []
+  pub amounts : GivesAmounts (values_of AMOUNTS.now pairs) request.job.elements request.amounts
+  pub lattice : numbers_of LATTICE_FORM LATTICE.now pairs ≡ Some request.job.lattice ∷ []
+  pub gap : numbers_of GAP_FORM GAP.now pairs ≡ Some request.gap ∷ []
+  pub budget : numbers_of BUDGET_FORM BUDGET.now pairs ≡ Some request.budget ∷ []
+  pub phases : map listed_in (values_of PHASES.now pairs) ≡ one_or_none request.job.phases
+  pub range : IsRequest request
 
--- what the pairs ask for: each option stands exactly once, and its value, read in its form, is the job's
-pub record Asks (pairs : List (Word × Word)) (job : Job) : Type 0 where
-  pub database : values_of DATABASE.now pairs ≡ string_bytes job.database ∷ []
-  pub t : numbers_of TEMPERATURE_DECIMALS TEMPERATURE.now pairs ≡ Some job.t ∷ []
-  pub amount : items_of AMOUNTS.now pairs ≡ Some (job.element, job.amount) ∷ []
-  pub lattice : numbers_of 0 LATTICE.now pairs ≡ Some job.lattice ∷ []
-  pub gap : numbers_of GAP_DECIMALS GAP.now pairs ≡ Some job.gap ∷ []
-  pub budget : numbers_of 0 BUDGET.now pairs ≡ Some job.budget ∷ []
-  pub range : InRange job
-
--- `equilibrium`, and then pairs of an option and its value that ask for the job
-pub record Says (words : List Word) (job : Job) : Type 0 where
+-- `equilibrium`, and then pairs of an option and its value that make the request
+pub record Says (words : List Word) (request : Request) : Type 0 where
   pub pairs : List (Word × Word)
   pub spelled : words ≡ codes "equilibrium" ∷ spelling pairs
   pub plain : list_all is_plain pairs ≡ true
-  pub asked : Asks pairs job
+  pub asked : Asks pairs request
 
--- two jobs with the same fields; of the file's name, the same bytes
-pub record SameJob (job other : Job) : Type 0 where
-  pub database : string_bytes job.database ≡ string_bytes other.database
-  pub t : job.t ≡ other.t
-  pub element : job.element ≡ other.element
-  pub amount : job.amount ≡ other.amount
-  pub lattice : job.lattice ≡ other.lattice
-  pub gap : job.gap ≡ other.gap
-  pub budget : job.budget ≡ other.budget
+-- two requests with the same parts; of the file's name, the same bytes
+pub record SameRequest (request other : Request) : Type 0 where
+  pub database : string_bytes request.database ≡ string_bytes other.database
+  pub job : request.job ≡ other.job
+  pub amounts : request.amounts ≡ other.amounts
+  pub gap : request.gap ≡ other.gap
+  pub budget : request.budget ≡ other.budget

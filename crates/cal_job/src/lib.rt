@@ -1,14 +1,16 @@
-//! The words of a command line, and the job that they ask for.
+//! The words of a command line, and the request that they make.
 #![tactic(auto)]
 
+mod composition;
 mod fault;
-mod job;
+mod names;
 mod number;
 mod option;
 mod pair;
 mod pairs;
 mod reading;
+mod request;
 
 pub use fault::WordsFault;
-pub use job::Job;
 pub use reading::read_words;
+pub use request::Request;

@@ -1,13 +1,13 @@
 //! Plain numbers of at most so many decimals.
 
-ghost use Rattle.std.specs.Prelude.{◌≡◌, ◌==◌, ◌+◌, ◌*◌, ◌^◌, ◌≤◌, ◌<◌, ℕ, true, length, Err, IfOk};
+ghost use Rattle.std.specs.Prelude.{◌≡◌, ◌==◌, ◌+◌, ◌*◌, ◌^◌, ◌≤◌, ◌<◌, true, length, Err, IfOk};
 ghost use Rattle.cal_scan.specs.Lines.{texts};
 ghost use Rattle.std.specs.Option.{option_map};
 ghost use Rattle.std.specs.List.{list_all};
 ghost use Rattle.cal_scan.specs.Bytes.{is_digit};
 ghost use Rattle.cal_job.specs.Forms as forms;
 ghost use Rattle.cal_job.specs.Capped.{capped};
-ghost use Rattle.cal_job.specs.Saying.{IsBetween};
+ghost use Rattle.cal_job.specs.Requests.{IsBetween};
 
 use crate::fault::WordsFault;
 use crate::option::NumberForm;
@@ -77,12 +77,13 @@ fn fixed(alloc: Global, text: &[u8], places: usize) -> Result<Option<u64>, Alloc
 }
 
 /// The plain number that the text writes, in units of the last decimal of its form, where it is within the form's range.
+#[tactic(auto, unfolding(crate::specs::Forms::number_of))]
 pub fn number_within(alloc: Global, text: &[u8], form: NumberForm) -> Result<u64, WordsFault>
     requires decimals { form.decimals ≤ 9 }
     requires most { form.most < CAP }
-    ensures value { IfOk result (λ number. forms.fixed_of form.decimals text.now ≡ Some number) }
+    ensures value { IfOk result (λ number. forms.number_of form text.now ≡ Some number) }
     ensures range { IfOk result (IsBetween form.least form.most) }
-    ensures usage { result ≡ Err WordsFault.Usage → (number : ℕ) → IsBetween form.least form.most number → ¬ (forms.fixed_of form.decimals text.now ≡ Some number) }
+    ensures usage { result ≡ Err WordsFault.Usage → forms.number_of form text.now ≡ None }
 {
     let found = fixed(alloc, text, form.decimals)?;
     match found {

@@ -6,7 +6,7 @@ ghost use Rattle.cal_job.specs.Saying as saying;
 ghost use Rattle.cal_job.specs.Saying.{spelling, values_of};
 
 use crate::fault::WordsFault;
-use crate::option::{AMOUNTS, BUDGET, DATABASE, GAP, LATTICE, TEMPERATURE};
+use crate::option::{AMOUNTS, BUDGET, DATABASE, GAP, LATTICE, PHASES, TEMPERATURE};
 use crate::pair::Pair;
 use cal_scan::{MINUS, is_word};
 use std::alloc::{AllocError, Global};
@@ -18,7 +18,8 @@ fn is_option(word: &[u8]) -> bool
     is_word(word, DATABASE)
         || (is_word(word, TEMPERATURE)
             || (is_word(word, AMOUNTS)
-                || (is_word(word, LATTICE) || (is_word(word, GAP) || is_word(word, BUDGET)))))
+                || (is_word(word, LATTICE)
+                    || (is_word(word, GAP) || (is_word(word, BUDGET) || is_word(word, PHASES))))))
 }
 
 fn is_value(word: &[u8]) -> bool
@@ -61,7 +62,12 @@ pub fn pairs<'a>(alloc: Global, words: &'a [String]) -> Result<Vec<Pair<'a>>, Al
     Ok(pairs)
 }
 
-fn values<'a>(alloc: Global, pairs: &[Pair<'a>], option: &[u8]) -> Result<Vec<&'a str>, AllocError>
+/// The values behind an option.
+pub fn values<'a>(
+    alloc: Global,
+    pairs: &[Pair<'a>],
+    option: &[u8],
+) -> Result<Vec<&'a str>, AllocError>
     ensures { IfOk result (λ values. map (λ value. value.now) values.items ≡ values_of option.now (pairs_of pairs.now)) }
 {
     pairs

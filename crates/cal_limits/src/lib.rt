@@ -29,8 +29,30 @@ pub const MOST_SITES: usize = 90;
 pub const FEWEST_PARTS: u32 = 10;
 /// The most parts of a sublattice.
 pub const MOST_PARTS: u32 = 1000;
+/// The greatest sum of the whole ratios of a phase.
+pub const MOST_RATIOS: u32 = 100_000;
+/// The most decimals of a written ratio.
+pub const MOST_RATIO_DECIMALS: u32 = 5;
+/// The greatest order of a binary interaction: it is written as one digit.
+pub const MOST_ORDER: u8 = 9;
 /// The greatest magnitude of the energy of a formula unit, in µJ/mol.
 pub const MOST_ENERGY: u64 = 1 << 55;
+/// The greatest sum of magnitudes of a phase's Curie temperatures, in µK.
+pub const MOST_CURIE: u64 = 10_000_000_000;
+/// The greatest sum of magnitudes of a phase's magnetic moments, in millionths.
+pub const MOST_MOMENT: u64 = 500_000_000;
+/// The greatest power of N in the divisor of a parameter's value.
+pub const MOST_POWER: u128 = 1 << 70;
+/// The most lists of counts of all phases of a system together.
+pub const MOST_LISTS: u64 = 1 << 40;
+/// The greatest power W^C, of the widest content of a system to the number of its elements.
+pub const MOST_WIDTH: u128 = 1 << 62;
+/// The greatest product of that power with the greatest size of a phase's energies.
+pub const MOST_COST: u128 = 1 << 94;
+/// The greatest potential of a sweep, in magnitude times the widest content of its phases.
+pub const MOST_SWEPT: u128 = 1 << 116;
+/// The greatest potential of a bound, in magnitude times the widest content of its phase; and the greatest multiplier times N.
+pub const MOST_BOUNDED: u128 = 1 << 117;
 
 /// The most bytes of a name.
 pub const MOST_NAME_BYTES: usize = 40;

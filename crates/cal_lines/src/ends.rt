@@ -1,6 +1,7 @@
 //! The first place of a text, and the place behind its last line.
 
 ghost use Rattle.std.specs.Prelude.{◌≡◌, ◌≤◌, ◌^◌, length, [], IsTrue, ◌↔◌};
+ghost use Rattle.cal_limits.specs.declared.TheConstants.{MOST_REPORT_BYTES};
 ghost use Rattle.cal_lines.specs.Reading.{Gives, lines_of, ended};
 ghost use Rattle.cal_lines.specs.Places.{place};
 
@@ -10,7 +11,7 @@ use crate::place::Place;
 impl<'a> Place<'a> {
     /// The first line of a text.
     pub fn start(text: &'a [u8]) -> Place<'a>
-        requires { length text.now ≤ 2 ^ 28 }
+        requires { length text.now ≤ MOST_REPORT_BYTES }
         ensures lines { place result ≡ (1, lines_of text.now) }
         ensures number { result.number ≡ 1 }
         ensures rest { result.rest.now ≡ text.now }

@@ -1,4 +1,5 @@
 ghost use Rattle.std.specs.Prelude.{◌≡◌, ◌≤◌, ◌+◌, ◌/◌, IfOk, pos};
+ghost use Rattle.cal_limits.specs.declared.TheConstants.{HIGHEST_TEMPERATURE};
 ghost use Rattle.cal_math.specs.Logarithm.{log_of, log_between};
 
 use crate::series::log_ratio;
@@ -28,7 +29,7 @@ impl Logs {
     /// The table of the logarithms of 1 to `max`; it takes eight bytes a number.
     pub fn build(alloc: Global, max: u32) -> Result<Logs, AllocError>
         requires least { 1 ≤ max }
-        requires greatest { max ≤ 600000 }
+        requires greatest { max ≤ HIGHEST_TEMPERATURE }
         ensures { IfOk result (λ logs. logs ≡ max) }
     {
         let mut entries = Vec::with_capacity(alloc, max as usize)?;

@@ -1,86 +1,63 @@
--- The system of a database for one element, at t hundredths of a kelvin and on a lattice.
-use Rattle.std.specs.Prelude.{◌≡◌, ℕ, ◌*◌, ◌<◌, List, [], ◌∷◌, length, map, filter, fold, max, sum, codes, Bool, true, false, not, ◌&&◌, is_some, Option, Some, None, Result, Ok, Err, ℤ, pos, ◌+ℤ◌, ◌*ℤ◌}
-use Rattle.std.specs.Map.{lookup}
-use Rattle.cal_scan.specs.Names.{same_name}
-use Rattle.cef_core.specs.declared.kind.Kind.TheVariants.{G}
+-- The system that a job selects from a database.
+use Rattle.std.specs.Prelude.{ℕ, ◌^◌, List, length, map, Bool, Option, is_some}
+use Rattle.std.specs.Option.{unwrap_or}
+use Rattle.cef_core.specs.declared.job.Job.{Job}
 use Rattle.cef_core.specs.declared.phase.ParamAt.{ParamAt}
 use Rattle.cef_core.specs.declared.phase.PhaseAt.{PhaseAt}
 use Rattle.cef_core.specs.declared.system.System.{System}
-use Rattle.tdb_first.specs.declared.key.Key.{Key}
-use Rattle.tdb_first.specs.declared.phase.PhaseText.{PhaseText}
-use Rattle.tdb_first.specs.declared.parameter.ParamText.{ParamText}
-use Rattle.tdb_first.specs.Database.{Database, same_key}
-use Rattle.cal_select.specs.declared.fault.SystemFault.{SystemFault}
-use Rattle.cal_select.specs.declared.fault.SystemFault.TheVariants as faults
+use Rattle.cef_core.specs.Systems.{all_points, widest_of}
+use Rattle.cal_dec.specs.declared.dec.Dec.{Dec}
+use Rattle.tdb_read.specs.Database.{Database}
+use Rattle.cal_select.specs.Valuations.{Valuation}
+use Rattle.cal_select.specs.Chosen.{Word, PhaseEntry, components_of, selected, all_kept_of, sites_at}
+use Rattle.cal_select.specs.Wholes.{decimals_of, whole_ratios}
+use Rattle.cal_select.specs.Types.{magnetic_of}
+use Rattle.cal_select.specs.Parameters.{parameters_of, needed_of, parameter_at}
 
--- an element of the database, and not the vacancy
-abbrev pub is_known : Database → List ℕ → Bool
-is_known db element = not (same_name element (codes "VA")) && is_some (lookup (same_name element) db.elements)
+-- d of the ratios
+abbrev pub decimals_in : List Dec → ℕ
+decimals_in ratios = unwrap_or (decimals_of ratios) 0
 
--- the one constituent is the element
-abbrev pub is_alone : List ℕ → List (List (List ℕ)) → Bool
-is_alone element ((constituent ∷ []) ∷ []) = same_name constituent element
-is_alone element _ = false
+-- 10^d: what makes the ratios whole
+abbrev pub scale_of : List Dec → ℕ
+scale_of ratios = 10 ^ decimals_in ratios
 
-abbrev pub qualifies : List ℕ → PhaseText → Bool
-qualifies element text = is_alone element text.sites
+abbrev pub is_magnetic : Database → PhaseEntry → Bool
+is_magnetic db e = is_some (magnetic_of db.types e)
 
--- the phases that hold the element, in the order of the database
-abbrev pub selected : Database → List ℕ → List (List ℕ × PhaseText)
-selected db element = filter (λ e. qualifies element e.1) db.phases
+abbrev pub kept_in : List Word → PhaseEntry → List (List Word)
+kept_in components e = all_kept_of components e.1.sites
 
--- constant + slope * T in µJ/mol
-abbrev pub micro_of : ℕ → ParamText → ℤ
-micro_of t text = text.constant *ℤ pos 1000000 +ℤ text.slope *ℤ pos (t * 10000)
+abbrev pub parameters_at : Valuation → Database → List Word → PhaseEntry → List ParamAt
+parameters_at outcome db components e =
+    map (parameter_at outcome db (scale_of e.1.ratios) (kept_in components e))
+    (needed_of (is_magnetic db e) (kept_in components e) (parameters_of db e.0))
 
-abbrev pub parameter_at : ℕ → ParamText → ParamAt
-parameter_at t text = record { kind = G; micro = micro_of t text; array = (0 ∷ []) ∷ []; order = 0; weighted = false }
-
--- the reference energy of the phase at the element, where the database has one
-abbrev pub parameters_at : ℕ → Option ParamText → List ParamAt
-parameters_at t None = []
-parameters_at t (Some text) = parameter_at t text ∷ []
-
-abbrev pub energy_key : List ℕ → List ℕ → Key
-energy_key phase element = record { phase = phase; constituent = element }
-
--- a phase of one sublattice with one constituent, the element
-unfoldable pub phase_at : Database → List ℕ → ℕ → ℕ → List ℕ × PhaseText → PhaseAt
-phase_at db element t lattice e = record {
+abbrev pub phase_at : Valuation → Database → Job → List Word → PhaseEntry → PhaseAt
+phase_at outcome db job components e = record {
   name = e.0;
-  t = t;
-  lattice = lattice;
-  scale = 1;
-  ratios = e.1.ratio ∷ [];
-  sites = (Some 0 ∷ []) ∷ [];
-  parameters = parameters_at t (lookup (same_key (energy_key e.0 element)) db.parameters);
-  magnetic = None;
+  t = job.t;
+  lattice = job.lattice;
+  scale = scale_of e.1.ratios;
+  ratios = whole_ratios (decimals_in e.1.ratios) e.1.ratios;
+  sites = sites_at components (kept_in components e);
+  parameters = parameters_at outcome db components e;
+  magnetic = magnetic_of db.types e;
 }
 
-abbrev pub phases_at : Database → List ℕ → ℕ → ℕ → List PhaseAt
-phases_at db element t lattice = map (phase_at db element t lattice) (selected db element)
+abbrev pub phases_at : Valuation → Database → Job → List Word → List PhaseEntry → List PhaseAt
+phases_at outcome db job components entries = map (phase_at outcome db job components) entries
 
-abbrev pub greatest_ratio : List PhaseAt → ℕ
-greatest_ratio phases = fold (λ most phase. max most (sum phase.ratios)) 0 phases
-
--- each phase has one list of counts
-abbrev pub system_with : List ℕ → ℕ → ℕ → List PhaseAt → System
-system_with element t lattice phases = record {
-  t = t;
-  lattice = lattice;
-  elements = element ∷ [];
+abbrev pub system_with : Job → List Word → List PhaseAt → System
+system_with job components phases = record {
+  t = job.t;
+  lattice = job.lattice;
+  elements = components;
   phases = phases;
-  lists = length phases;
-  widest = lattice * greatest_ratio phases;
+  lists = all_points phases;
+  widest = widest_of job.lattice phases;
 }
 
-abbrev pub system_of : Database → List ℕ → ℕ → ℕ → System
-system_of db element t lattice = system_with element t lattice (phases_at db element t lattice)
-
--- The system, where the element is known and some phase holds it. An unknown element goes before a want of phases.
-abbrev pub Selects : Database → List ℕ → ℕ → ℕ → Result System SystemFault → Type 0
-Selects db element t lattice (Ok system) =
-    (is_known db element ≡ true) × (0 < length (selected db element)) × (system ≡ system_of db element t lattice)
-Selects db element t lattice (Err (faults.UnknownElement name)) = (is_known db element ≡ false) × (name ≡ element)
-Selects db element t lattice (Err faults.NoPhase) = (is_known db element ≡ true) × (selected db element ≡ [])
-Selects db element t lattice (Err faults.Memory) = Unit {0}
+abbrev pub system_of : Valuation → Database → Job → System
+system_of outcome db job =
+    system_with job (components_of db job) (phases_at outcome db job (components_of db job) (selected db job))

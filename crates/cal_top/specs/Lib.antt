@@ -1,2 +1,5 @@
-pub mod Refusals
+pub mod Seen
+pub mod Equilibria
 pub mod Replies
+-- Workings: which systems are solved, as a test.
+pub mod Building

@@ -1,91 +1,160 @@
-//! The reply to a job over the bytes of its database.
+//! The reply to a request over the bytes of its database.
 
-ghost use Rattle.std.specs.Prelude.{◌≡◌, ◌<◌, ◌≤◌, ◌*◌, IfOk, length, map, All, pos};
+ghost use Rattle.std.specs.Prelude.{◌≡◌, ◌≢◌, ◌≤◌, IfOk, length, map};
 ghost use Rattle.cal_limits.specs.declared.TheConstants.{MOST_DATABASE_BYTES};
-ghost use Rattle.cal_scan.specs.Names.{AreNames};
-ghost use Rattle.cal_job.specs.Saying.{InRange};
-ghost use Rattle.cef_core.specs.Pure.{IsPure};
-ghost use Rattle.cal_top.specs.Replies.{AnswersSystem, AnswersDatabase, AnswersBytes};
+ghost use Rattle.cal_job.specs.Requests.{IsRequest};
+ghost use Rattle.cef_core.specs.Systems.{IsSystem};
+ghost use Rattle.cef_report.specs.Feasibility.{AreAsked};
+ghost use Rattle.eq_solve.specs.Single.{IsBuilt};
+ghost use Rattle.temp_fun.specs.Functions.{AreFunctions};
+ghost use Rattle.cal_refusal.specs.Refusals.{system_line};
+ghost use Rattle.cal_top.specs.Equilibria.{asked_of, FromSystem, FromDatabase, FromBytes};
 
-use crate::refusal;
+use crate::asked::totals_asked;
+use crate::built::is_built;
+use crate::models::models_of;
 use crate::reply::Reply;
 use cal_base::Status;
-use cal_job::Job;
+use cal_job::Request;
+use cal_limits::HIGHEST_TEMPERATURE;
+use cal_log::Logs;
+use cal_refusal::{UNBUILT, database, infeasible, system_refusal};
 use cal_select::{SystemFault, system};
 use cef_core::System;
-use eq_solve::equilibrium;
+use cef_phase::PhaseModel;
+use eq_solve::{SolveFault, equilibrium};
 use eq_text::write_report;
 use std::alloc::{AllocError, Global};
-use tdb_first::{Db, DbFault, read};
+use tdb_read::{Db, DbFault, read};
+use temp_fun::some_outcome;
 
-/// What is asked of the element, in units of 1/N nmol.
-fn asked_total(job: &Job) -> i128
-    requires { InRange job.now }
-    ensures { result ≡ pos (job.now.amount * job.now.lattice) }
+/// The equilibrium of what is asked of the system, whose phases have these models.
+fn by_models<P: PhaseModel>(
+    alloc: Global,
+    request: &Request,
+    system: &System,
+    models: &[P],
+) -> Result<Reply, AllocError>
+    requires request { IsRequest request.now }
+    requires system { IsSystem system.now }
+    requires built { IsBuilt system.now }
+    requires models { map P.phase_of models.now ≡ system.now.phases }
+    requires asked { AreAsked system.now (asked_of request.now system.now) }
+    ensures { IfOk result (λ reply. FromSystem system.now request.now reply.status reply.text.items) }
 {
-    i128::from(job.amount * u64::from(job.lattice))
+    let asked = totals_asked(alloc, request, system.elements.as_slice())?;
+    let found = equilibrium(
+        alloc,
+        system,
+        models,
+        asked.as_slice(),
+        request.gap,
+        request.budget,
+    );
+    match found {
+        Ok(report) => {
+            let text = write_report(alloc, &report)?;
+            Ok(Reply {
+                status: Status::Done,
+                text,
+            })
+        }
+        Err(SolveFault::Infeasible(numbers)) => {
+            let text = infeasible(alloc, numbers.as_slice())?;
+            Ok(Reply {
+                status: Status::BadSystem,
+                text,
+            })
+        }
+        Err(SolveFault::GapNotClosed(_)) => unreachable!(),
+        Err(SolveFault::Memory) => Err(AllocError),
+    }
 }
 
-/// The equilibrium of what is asked of the system.
-fn over_system(alloc: Global, job: &Job, system: &System) -> Result<Reply, AllocError>
-    requires range { InRange job.now }
-    requires lattice { system.now.lattice ≡ job.now.lattice }
-    requires one_element { length system.now.elements ≡ 1 }
-    requires some_phase { 0 < length system.now.phases }
-    requires pure { All (IsPure job.now.lattice) system.now.phases }
-    requires temperature { system.now.t ≡ job.now.t }
-    requires elements { AreNames system.now.elements }
-    requires phases { AreNames (map (λ phase. phase.name) system.now.phases) }
-    ensures status { IfOk result (λ reply. reply.status ≡ Status.Done) }
-    ensures report { IfOk result (λ reply. AnswersSystem system.now job.now reply.text.items) }
+/// The reply over the system.
+fn over_system(
+    alloc: Global,
+    request: &Request,
+    logs: &Logs,
+    system: &System,
+) -> Result<Reply, AllocError>
+    requires request { IsRequest request.now }
+    requires logs { HIGHEST_TEMPERATURE ≤ logs.now }
+    requires system { IsSystem system.now }
+    requires asked { AreAsked system.now (asked_of request.now system.now) }
+    ensures { IfOk result (λ reply. FromSystem system.now request.now reply.status reply.text.items) }
 {
-    let report = equilibrium(alloc, system, asked_total(job), job.gap)?;
-    let text = write_report(alloc, &report)?;
-    Ok(Reply {
-        status: Status::Done,
-        text,
-    })
+    if !is_built(system) {
+        let reply = Reply::refusal(alloc, Status::BadSystem, UNBUILT)?;
+        return Ok(reply);
+    }
+    let models = models_of(alloc, system.phases.as_slice(), logs)?;
+    let reply = by_models(alloc, request, system, models.as_slice())?;
+    Ok(reply)
+}
+
+/// The line of the cause why there is no system. Want of memory has none.
+fn refused(alloc: Global, fault: &SystemFault) -> Result<Reply, AllocError>
+    ensures want { IfOk result (λ reply. fault.now ≢ SystemFault.Memory) }
+    ensures status { IfOk result (λ reply. reply.status ≡ Status.BadSystem) }
+    ensures text { IfOk result (λ reply. reply.text.items ≡ system_line fault.now) }
+{
+    match fault {
+        SystemFault::Memory => Err(AllocError),
+        _ => {
+            let text = system_refusal(alloc, fault)?;
+            Ok(Reply {
+                status: Status::BadSystem,
+                text,
+            })
+        }
+    }
 }
 
 /// The reply over the database.
-fn over_database(alloc: Global, job: &Job, db: &Db) -> Result<Reply, AllocError>
-    requires range { InRange job.now }
-    ensures { IfOk result (λ reply. AnswersDatabase db.now job.now reply.status reply.text.items) }
+fn over_database(alloc: Global, request: &Request, db: &Db) -> Result<Reply, AllocError>
+    requires request { IsRequest request.now }
+    requires functions { AreFunctions db.now.functions }
+    ensures { IfOk result (λ reply. FromDatabase db.now request.now reply.status reply.text.items) }
 {
-    let found = system(alloc, db, &job.element, job.t, job.lattice);
+    some_outcome();
+    let logs = Logs::build(alloc, HIGHEST_TEMPERATURE)?;
+    let found = system(alloc, db, &logs, &request.job);
     match found {
-        Err(SystemFault::UnknownElement(name)) => {
-            let reply = refusal::element(alloc, &name)?;
-            Ok(reply)
-        }
-        Err(SystemFault::NoPhase) => {
-            let reply = Reply::refusal(alloc, Status::BadSystem, b"refused system no-phase\n")?;
-            Ok(reply)
-        }
-        Err(SystemFault::Memory) => Err(AllocError),
         Ok(system) => {
-            let reply = over_system(alloc, job, &system)?;
+            let reply = over_system(alloc, request, &logs, &system)?;
+            Ok(reply)
+        }
+        Err(fault) => {
+            let reply = refused(alloc, &fault)?;
             Ok(reply)
         }
     }
 }
 
 /// The reply over the bytes of the database.
-pub(crate) fn over_bytes(alloc: Global, job: &Job, bytes: &[u8]) -> Result<Reply, AllocError>
-    requires range { InRange job.now }
+pub(crate) fn over_bytes(
+    alloc: Global,
+    request: &Request,
+    bytes: &[u8],
+) -> Result<Reply, AllocError>
+    requires request { IsRequest request.now }
     requires limit { length bytes.now ≤ MOST_DATABASE_BYTES }
-    ensures { IfOk result (λ reply. AnswersBytes bytes.now job.now reply.status reply.text.items) }
+    ensures { IfOk result (λ reply. FromBytes bytes.now request.now reply.status reply.text.items) }
 {
     let found = read(alloc, bytes);
     match found {
-        Err(DbFault::Bad { line }) => {
-            let reply = refusal::database(alloc, line)?;
+        Ok(db) => {
+            let reply = over_database(alloc, request, &db)?;
             Ok(reply)
+        }
+        Err(DbFault::Bad { line, rule }) => {
+            let text = database(alloc, line, rule)?;
+            Ok(Reply {
+                status: Status::BadDatabase,
+                text,
+            })
         }
         Err(DbFault::Memory) => Err(AllocError),
-        Ok(db) => {
-            let reply = over_database(alloc, job, &db)?;
-            Ok(reply)
-        }
     }
 }

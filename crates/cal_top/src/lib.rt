@@ -1,8 +1,10 @@
 //! A run of the program: the words are read, then the database, and what they give is written.
 #![tactic(auto)]
 
+mod asked;
+mod built;
 mod equilibria;
-mod refusal;
+mod models;
 mod reply;
 mod running;
 mod words;

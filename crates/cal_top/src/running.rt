@@ -1,16 +1,17 @@
 ghost use Rattle.std.specs.Prelude.{◌≡◌, ◌≢◌, ◌⊎◌, List, ℕ, map, string_bytes};
 ghost use Rattle.cal_base.specs.declared.status.Status.{Status};
 ghost use Rattle.cal_base.specs.Outside.{Rose, append_told, AppendsAllBut};
-ghost use Rattle.cal_job.specs.declared.job.Job.{Job};
-ghost use Rattle.cal_top.specs.Replies.{seen, IsAnswerable, Replied, RepliedPartly};
+ghost use Rattle.cal_top.specs.Seen.{seen};
+ghost use Rattle.cal_top.specs.Replies.{IsAnswerable, Replied, RepliedPartly};
 
 use crate::reply::Reply;
 use crate::words::answer;
 use cal_base::{Library, Sink, Status, write_all};
 use std::alloc::Global;
+use tdb_read::one_outcome;
 
 /// A run of the program over the words behind its name: the text of its one reply is appended to what the sink has, and
-/// the status says which it was. `equilibrium` reads a database and prints the equilibrium of one element.
+/// the status says which it was. `equilibrium` reads a database and prints the equilibrium of what is asked.
 pub fn run<L: Library, K: Sink>(
     alloc: Global,
     words: &[String],
@@ -34,11 +35,11 @@ pub fn run<L: Library, K: Sink>(
     ensures told { L.told files.new ≡ L.told files.old }
 
     // Where no cause of a refusal stands and no count rose, the run is done, or has no memory.
-    ensures complete { (job : Job) (bytes : List ℕ) →
-        IsAnswerable (L.told files.old) (map (λ word. string_bytes word) words.now) job bytes →
+    ensures complete { IsAnswerable (L.told files.old) (map (λ word. string_bytes word) words.now) →
         ¬ Rose (L.faults files.old) (L.faults files.new) → ¬ Rose (K.faults out.old) (K.faults out.new) →
         (result ≡ Status.Done) ⊎ (result ≡ Status.Memory) }
 {
+    one_outcome();
     let answered = answer(alloc, words, files);
     match answered {
         Err(_) => Status::Memory,

@@ -1,2 +1,8 @@
 pub mod Parts
+pub mod Flats
+pub mod Contents
 mod Worked
+pub mod Capped
+pub mod Counting
+pub mod Product
+pub mod Adding

@@ -2,8 +2,8 @@
 use Rattle.std.proofs.Common.{◌≡◌, ℕ, List, [], ◌∷◌, Some, None, refl, true, false, map}
 use Rattle.std.specs.Prelude.{ℤ, pos, negsuc}
 use Rattle.cal_math.specs.Logarithm.{log_of, log_step, log_summand, log_between}
-use Rattle.cef_core.specs.declared.kind.Kind.{Kind}
-use Rattle.cef_core.specs.declared.kind.Kind.TheVariants.{G, Tc, Beta}
+use Rattle.cef_kind.specs.declared.kind.Kind.{Kind}
+use Rattle.cef_kind.specs.declared.kind.Kind.TheVariants.{G, Tc, Beta}
 use Rattle.cef_core.specs.declared.phase.ParamAt.{ParamAt}
 use Rattle.cef_core.specs.declared.phase.PhaseAt.{PhaseAt}
 use Rattle.cef_core.specs.Constitutions.{content}

@@ -1,5 +1,5 @@
 -- Constitutions of a phase on its lattice, and what they hold of each component.
-use Rattle.std.specs.Prelude.{◌≡◌, ℕ, ◌+◌, ◌*◌, ◌<◌, nat_eq, List, [], ◌∷◌, Option, Some, None, length, sum, if◌then◌else◌, ℤ, pos}
+use Rattle.std.specs.Prelude.{◌≡◌, ℕ, ◌+◌, ◌*◌, ◌<◌, nat_eq, List, [], ◌∷◌, Option, Some, None, length, sum, slice_index, slice_index_or, if◌then◌else◌, ℤ, pos}
 use Rattle.cef_core.specs.declared.phase.PhaseAt.{PhaseAt}
 
 -- a count for each site, the counts of each sublattice adding to the lattice's number
@@ -13,6 +13,10 @@ HasShape n (sites ∷ rest) [] = ⊥
 abbrev pub weight_of : ℕ → ℕ → Option ℕ → ℕ
 weight_of c ratio None = 0
 weight_of c ratio (Some d) = if nat_eq c d then ratio else 0
+
+-- that of a site of a phase
+abbrev pub weight_at : PhaseAt → ℕ → ℕ → ℕ → ℕ
+weight_at phase s p c = weight_of c (slice_index phase.ratios s) (slice_index_or (slice_index_or phase.sites s []) p None)
 
 -- the counts of one sublattice, each times its weight
 abbrev pub content_of_counts : ℕ → ℕ → List (Option ℕ) → List ℕ → ℕ
@@ -32,7 +36,11 @@ content_over c (ratio ∷ ratios) (sites ∷ rest) [] = 0
 unfoldable pub content : PhaseAt → List (List ℕ) → ℕ → ℤ
 content phase counts c = pos (content_over c phase.ratios phase.sites counts)
 
+-- the counts hold some component
+abbrev pub HasContent : PhaseAt → List (List ℕ) → Type 0
+HasContent phase counts = (c : ℕ) × (0 < content_over c phase.ratios phase.sites counts)
+
 -- a list of counts that holds some component
 pub record IsConstitution (phase : PhaseAt) (counts : List (List ℕ)) : Type 0 where
   pub shape : HasShape phase.lattice phase.sites counts
-  pub some : (c : ℕ) × (0 < content_over c phase.ratios phase.sites counts)
+  pub some : HasContent phase counts

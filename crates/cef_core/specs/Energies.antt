@@ -1,8 +1,8 @@
 -- The energy of a constitution, in µJ per mol of formula units.
 use Rattle.std.specs.Prelude.{ℕ, List, filter, Bool, true, false, Option, Some, None, ℤ, pos, ◌+ℤ◌}
 use Rattle.cal_math.specs.Sums.{sum_of}
-use Rattle.cef_core.specs.declared.kind.Kind.{Kind}
-use Rattle.cef_core.specs.declared.kind.Kind.TheVariants.{G, Tc, Beta, Unread, Other}
+use Rattle.cef_kind.specs.declared.kind.Kind.{Kind}
+use Rattle.cef_kind.specs.declared.kind.Kind.TheVariants.{G, Tc, Beta, Unread, Other}
 use Rattle.cef_core.specs.declared.phase.MagneticAt.{MagneticAt}
 use Rattle.cef_core.specs.declared.phase.PhaseAt.{PhaseAt}
 use Rattle.cef_core.specs.Parameters.{parameter_value}

@@ -1,6 +1,6 @@
-use crate::kind::Kind;
 use cal_list::Items;
 use cal_scan::Name;
+use cef_kind::Kind;
 
 /// A parameter of a phase at a temperature.
 #[derive(Drop)]

@@ -1,6 +1,6 @@
 ghost use Rattle.std.specs.Prelude.{◌≡◌, ◌<◌, ◌≤◌, ◌+◌, ◌^◌, ◌++◌, ◌∷◌, [], Some, IfOk, length, slice_get, true};
 ghost use Rattle.std.specs.List.{concat};
-ghost use Rattle.cef_core.specs.Sublattices.{parts_of, are_ends, start_at};
+ghost use Rattle.cef_core.specs.Sublattices.{parts_of, are_ends, start_at, IsFlat};
 
 use smallvec::SmallVec;
 use std::alloc::{AllocError, Global};
@@ -26,6 +26,13 @@ impl Model for Site {
     ghost invariant = { λ s. are_ends 0 s.ends.items (length s.counts.items) ≡ true };
 }
 
+/// The counts of all sites, with the place behind each sublattice.
+#[derive(Clone, Copy)]
+pub(crate) struct FlatCounts<'a> {
+    pub ends: &'a [u16],
+    pub counts: &'a [u16],
+}
+
 impl Site {
     /// The counts of no sublattice.
     pub fn new(alloc: Global) -> Site
@@ -37,8 +44,8 @@ impl Site {
         }
     }
 
-    #[tactic(auto, using(crate::proofs::Parts::sublattices))]
     /// These counts with those of one more sublattice behind them.
+    #[tactic(auto, using(crate::proofs::Parts::sublattices))]
     pub fn with_sublattice(self, counts: &[u16]) -> Result<Site, AllocError>
         requires { length (concat self) + length counts.now < 2 ^ 16 }
         ensures { IfOk result (λ site. site ≡ self ++ counts.now ∷ []) }
@@ -52,16 +59,45 @@ impl Site {
         Ok(Site { counts: all, ends })
     }
 
-    #[tactic(auto, using(crate::proofs::Parts::sublattices))]
+    /// The same counts.
+    pub fn copy(&self, alloc: Global) -> Result<Site, AllocError>
+        ensures { IfOk result (λ site. site ≡ self.now) }
+    {
+        let counts = SmallVec::from_slice(alloc, self.counts.as_slice())?;
+        let ends = SmallVec::from_slice(alloc, self.ends.as_slice())?;
+        Ok(Site { counts, ends })
+    }
+
+    /// The counts of all sites, those of each sublattice behind those of the one before.
+    #[tactic(auto, using(crate::proofs::Flats::flattened))]
+    pub fn counts(&self) -> &[u16]
+        ensures { result.now ≡ concat self.now }
+    {
+        self.counts.as_slice()
+    }
+
+    /// The counts as they are kept.
+    #[tactic(auto, using(crate::proofs::Flats::alone))]
+    pub(crate) fn flat(&self) -> FlatCounts<'_>
+        ensures exact { parts_of 0 result.ends.now result.counts.now ≡ self.now }
+        ensures flat { IsFlat 0 result.ends.now result.counts.now }
+    {
+        FlatCounts {
+            ends: self.ends.as_slice(),
+            counts: self.counts.as_slice(),
+        }
+    }
+
     /// How many sublattices there are.
+    #[tactic(auto, using(crate::proofs::Parts::sublattices))]
     pub fn sublattices(&self) -> usize
         ensures { result ≡ length self.now }
     {
         self.ends.len()
     }
 
-    #[tactic(auto, using(crate::proofs::Parts::sublattices))]
     /// The counts of a sublattice.
+    #[tactic(auto, using(crate::proofs::Parts::sublattices))]
     pub fn sublattice(&self, place: usize) -> &[u16]
         requires { place < length self.now }
         ensures { slice_get self.now place ≡ Some result.now }
@@ -70,8 +106,8 @@ impl Site {
     }
 }
 
-/// The list at a place of lists that are kept one behind the other.
-fn part_at<'a>(counts: &'a [u16], ends: &[u16], place: usize) -> &'a [u16]
+/// The list at a place of lists that are kept one behind the other, with the place behind each.
+pub fn part_at<'a>(counts: &'a [u16], ends: &[u16], place: usize) -> &'a [u16]
     requires ends { are_ends 0 ends.now (length counts.now) ≡ true }
     requires place { place < length ends.now }
     ensures { slice_get (parts_of 0 ends.now counts.now) place ≡ Some result.now }

@@ -1,11 +1,23 @@
-//! The equilibrium of one element between phases of fixed composition, with its certificate.
+//! The equilibrium of a system, with its certificate: exact plans over the known constitutions, and sweeps that find what they lack.
 #![tactic(auto)]
 
-mod best;
-mod figures;
-mod plane;
-mod pure;
+mod alone;
+mod amount;
+mod fault;
+mod figure;
+mod found;
+mod known;
+mod phases;
+mod point;
+mod potential;
+mod proposal;
 mod report;
+mod round;
+mod rounds;
+mod single;
 mod solving;
+mod swept;
+mod weight;
 
+pub use fault::{Open, SolveFault};
 pub use solving::equilibrium;

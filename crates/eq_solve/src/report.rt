@@ -1,12 +1,10 @@
-ghost use Rattle.std.specs.Prelude.{◌≡◌, ℕ, ◌≤◌, ◌^◌, pos, ◌≤ℤ◌, map, replicate, IfOk, length, ◌∷◌, []};
-ghost use Rattle.cal_limits.specs.declared.TheConstants.{MOST_ASKED};
-ghost use Rattle.cef_core.specs.declared.system.System.{System};
-ghost use Rattle.eq_solve.specs.Reporting.{Reports, single_leaf};
+ghost use Rattle.std.specs.Prelude.{◌≡◌, ◌≤◌, IfOk, map, length};
+ghost use Rattle.eq_solve.specs.Reporting.{Reports};
 
-use crate::figures::Figures;
-use cal_list::{Items, one};
-use cef_core::{Name, Node, PhaseAt, Site, System, Tree};
-use cef_report::{Entry, Report};
+use crate::found::Found;
+use cal_list::Items;
+use cef_core::{Name, PhaseAt, System};
+use cef_report::Report;
 use std::alloc::{AllocError, Global};
 
 fn names_of(alloc: Global, phases: &[PhaseAt]) -> Result<Items<Name>, AllocError>
@@ -29,72 +27,40 @@ fn copies(alloc: Global, names: &[Name]) -> Result<Items<Name>, AllocError>
     Ok(copies)
 }
 
-/// A tree of one leaf with the multiplier 0.
-fn leaf(alloc: Global) -> Result<Tree, AllocError>
-    ensures { IfOk result (λ tree. tree ≡ single_leaf) }
+fn numbers_of(alloc: Global, numbers: &[i128]) -> Result<Items<i128>, AllocError>
+    ensures { IfOk result (λ copy. copy ≡ numbers.now) }
 {
-    let multipliers = one(alloc, 0)?;
-    let nodes = one(alloc, Node::Leaf { multipliers })?;
-    Ok(Tree { nodes })
-}
-
-fn leaves(alloc: Global, count: usize) -> Result<Items<Tree>, AllocError>
-    ensures { IfOk result (λ trees. trees ≡ replicate count single_leaf) }
-{
-    let mut trees = Items::new(alloc);
-    'trees: for _place in 0..count {
-        trees.push(leaf(alloc)?)?;
+    let mut copy = Items::new(alloc);
+    'numbers: for number in numbers {
+        copy.push(*number)?;
     }
-    Ok(trees)
+    Ok(copy)
 }
 
-/// The one entry, of all N parts.
-fn entry_of(alloc: Global, place: usize, amount: i128, lattice: u16) -> Result<Entry, AllocError>
-    ensures place { IfOk result (λ entry. entry.phase ≡ place) }
-    ensures amount { IfOk result (λ entry. entry.amount ≡ amount) }
-    ensures site { IfOk result (λ entry. entry.site ≡ (lattice ∷ []) ∷ []) }
-{
-    let site = Site::new(alloc).with_sublattice(&[lattice])?;
-    Ok(Entry {
-        phase: place,
-        amount,
-        site,
-    })
-}
-
-/// The report of these figures.
+/// The report of what was found.
 pub(crate) fn report_of(
     alloc: Global,
     system: &System,
-    asked: i128,
-    figures: Figures,
+    asked: &[i128],
+    found: Found,
 ) -> Result<Report, AllocError>
-    requires lattice { system.now.lattice ≤ 1000 }
-    requires asked_high { asked ≤ℤ pos MOST_ASKED }
-    requires total_low { pos 0 ≤ℤ figures.total }
-    requires total_high { figures.total ≤ℤ asked }
-    ensures { IfOk result (λ r. Reports system.now asked figures r) }
+    ensures { IfOk result (λ report. Reports system.now asked.now found report) }
 {
-    let entry = entry_of(alloc, figures.place, figures.amount, system.lattice as u16)?;
     let elements = copies(alloc, system.elements.as_slice())?;
     let phases = names_of(alloc, system.phases.as_slice())?;
-    let asked_list = one(alloc, asked)?;
-    let entries = one(alloc, entry)?;
-    let totals = one(alloc, figures.total)?;
-    let potentials = one(alloc, figures.potential)?;
-    let trees = leaves(alloc, system.phases.len())?;
+    let asked_numbers = numbers_of(alloc, asked)?;
     Ok(Report {
         t: system.t,
         lattice: system.lattice,
         elements,
         phases,
-        asked: asked_list,
-        entries,
-        totals,
-        energy: figures.energy,
-        tolerance: asked - figures.total,
-        gap: figures.gap,
-        potentials,
-        trees,
+        asked: asked_numbers,
+        entries: found.entries,
+        totals: found.totals,
+        energy: found.energy,
+        tolerance: found.tolerance,
+        gap: found.gap,
+        potentials: found.potentials,
+        trees: found.trees,
     })
 }

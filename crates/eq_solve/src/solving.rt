@@ -1,49 +1,61 @@
-ghost use Rattle.std.specs.Prelude.{◌≡◌, ◌<◌, ◌≤◌, ◌*◌, ◌^◌, ◌∷◌, [], IfOk, length, map, true, All, replicate, pos, ◌≤ℤ◌};
-ghost use Rattle.cal_limits.specs.declared.TheConstants.{HIGHEST_TEMPERATURE, LOWEST_TEMPERATURE, MOST_ASKED, MOST_GAP};
+ghost use Rattle.std.specs.Prelude.{◌≡◌, ◌≤◌, map, IfOk, IfErr};
+ghost use Rattle.cal_limits.specs.declared.TheConstants.{LEAST_GAP, MOST_GAP};
+ghost use Rattle.cef_core.specs.Systems.{IsSystem};
 ghost use Rattle.cef_report.specs.Holding.{Holds};
-ghost use Rattle.cef_core.specs.Lattices.{is_lattice};
-ghost use Rattle.cal_scan.specs.Names.{AreNames};
-ghost use Rattle.cef_report.specs.Spelled.{IsSpelled};
 ghost use Rattle.cef_report.specs.Certificates.{IsCertified};
-ghost use Rattle.cef_core.specs.Pure.{IsPure};
-ghost use Rattle.eq_solve.specs.Reporting.{single_leaf, IsNear};
+ghost use Rattle.cef_report.specs.Feasibility.{AreAsked, IsFeasible};
+ghost use Rattle.cef_report.specs.Spelled.{IsSpelled};
+ghost use Rattle.eq_solve.specs.Answers.{IsFault, IsNear, IsSettled};
+ghost use Rattle.eq_solve.specs.Single.{IsBuilt, IsSweptOnce, only_leaf};
 
-use crate::figures::figures_of;
-use crate::plane::margin_of;
+use crate::fault::SolveFault;
 use crate::report::report_of;
+use crate::rounds::equilibrium_by_rounds;
+use crate::single::{SingleLists, starts_of};
 use cef_core::System;
+use cef_phase::PhaseModel;
 use cef_report::Report;
-use std::alloc::{AllocError, Global};
+use std::alloc::Global;
 
-/// The equilibrium of one element between pure phases, for the asked total in units of 1/N nmol and the asked gap in µJ
-/// per mol of components: a whole amount of the phase of least energy for its content.
-#[tactic(auto, using(crate::proofs::Spelling::lattice_within))]
-pub fn equilibrium(
+/// The equilibrium of a system for the asked totals, in units of 1/N nmol, with a gap of at most the asked one, in µJ per mol of
+/// components. The budget is the number of splits of boxes that each sweep may make. `models` are those of the system's phases, in order.
+/// So far each phase has one list of counts, so no sweep splits a box, and no budget is ever spent.
+pub fn equilibrium<P: PhaseModel>(
     alloc: Global,
     system: &System,
-    asked: i128,
+    models: &[P],
+    asked: &[i128],
     gap: u64,
-) -> Result<Report, AllocError>
-    requires one_element { length system.now.elements ≡ 1 }
-    requires some_phase { 0 < length system.now.phases }
-    requires pure { All (IsPure system.now.lattice) system.now.phases }
-    requires temperature_low { LOWEST_TEMPERATURE ≤ system.now.t }
-    requires temperature_high { system.now.t ≤ HIGHEST_TEMPERATURE }
-    requires lattice { is_lattice system.now.lattice ≡ true }
-    requires elements { AreNames system.now.elements }
-    requires phases { AreNames (map (λ phase. phase.name) system.now.phases) }
-    requires asked_low { pos (100 * system.now.lattice) ≤ℤ asked }
-    requires asked_high { asked ≤ℤ pos MOST_ASKED }
-    requires gap_low { 1 ≤ gap }
+    budget: u64,
+) -> Result<Report, SolveFault>
+    requires system { IsSystem system.now }
+    requires built { IsBuilt system.now }
+    requires models { map P.phase_of models.now ≡ system.now.phases }
+    requires asked { AreAsked system.now asked.now }
+    requires gap_low { LEAST_GAP ≤ gap }
     requires gap_high { gap ≤ MOST_GAP }
-    ensures holds { IfOk result (λ r. Holds system.now (asked ∷ []) r) }
-    ensures near { IfOk result (λ r. IsNear system.now r) }
+    ensures holds { IfOk result (λ r. Holds system.now asked.now r) }
     ensures certified { IfOk result (λ r. IsCertified system.now gap r) }
+    ensures near { IfOk result (λ r. IsNear system.now r) }
     ensures spelled { IfOk result (λ r. IsSpelled r) }
-    ensures trees { IfOk result (λ r. r.trees ≡ replicate (length system.now.phases) single_leaf) }
+    ensures trees { IfOk result (λ r. r.trees ≡ map only_leaf system.now.phases) }
+
+    // An answer other than `Infeasible` and `Memory` comes only where the asked totals are feasible.
+    ensures feasible { IfOk result (λ r. IsFeasible system.now asked.now) }
+    ensures fault { IfErr result (λ fault. IsFault system.now (IsSweptOnce system.now) asked.now gap budget fault) }
+    ensures settled { IfErr result (λ fault. IsSettled fault) }
 {
-    let margin = i128::from(margin_of(gap, system.lattice));
-    let figures = figures_of(system.phases.as_slice(), system.lattice, asked, margin);
-    let report = report_of(alloc, system, asked, figures)?;
+    let phases = SingleLists { system, models };
+    let starts = starts_of(alloc, system.phases.as_slice())?;
+    let found = equilibrium_by_rounds(
+        alloc,
+        system,
+        &phases,
+        starts.as_slice(),
+        asked,
+        gap,
+        budget,
+    )?;
+    let report = report_of(alloc, system, asked, found)?;
     Ok(report)
 }

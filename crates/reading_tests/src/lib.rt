@@ -1,7 +1,5 @@
-//! Tests of how a text is cut into commands, and of the first forms of a database.
+//! Tests of how a text is cut into commands.
 #![tactic(auto)]
 
 #[cfg(test)]
 mod commands;
-#[cfg(test)]
-mod first_forms;

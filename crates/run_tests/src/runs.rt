@@ -97,13 +97,13 @@ fn each_refusal_has_its_line_and_status(rt: HostRuntime) -> Result<(), Fail> {
         (
             AT_1000,
             "ELEMENT A X !\nX !",
-            "refused database line 2 rule unbuilt\n",
+            "refused database line 2 rule word\n",
             Status::BadDatabase,
         ),
         (
             AT_1000,
             "\nPHASE A % 1 1",
-            "refused database line 2 rule unbuilt\n",
+            "refused database line 2 rule unfinished\n",
             Status::BadDatabase,
         ),
         (AT_OTHER, "", "refused read\n", Status::ReadFault),
@@ -111,6 +111,51 @@ fn each_refusal_has_its_line_and_status(rt: HostRuntime) -> Result<(), Fail> {
     for (line, text, printed, status) in rows {
         assert!(rt; gives(alloc, line, text, printed, status)?);
     }
+    Ok(())
+}
+
+/// Two compounds of two elements, of which the asked totals have more of the first than either holds.
+const COMPOUNDS: &str =
+    "ELEMENT A X 1 0 0 !\nELEMENT B X 1 0 0 !\nPHASE A2B % 2 2 1 !\nCONSTITUENT A2B :A:B: !\nPARAMETER G(A2B,A:B;0) 1 -30000; 6000 N !\nPHASE AB2 % 2 1 2 !\nCONSTITUENT AB2 :A:B: !\nPARAMETER G(AB2,A:B;0) 1 -30000; 6000 N !\n";
+
+const TOO_RICH: &str =
+    "equilibrium --db X1 --t 1000 --amounts A=0.9,B=0.1 --lattice 10 --gap 1 --budget 0";
+
+#[test]
+fn totals_outside_of_all_compounds_are_infeasible(rt: HostRuntime) -> Result<(), Fail> {
+    let mut out = MemorySink::new(rt.alloc(), 4096, 8192)?;
+    assert_eq!(rt;
+        run_over(rt.alloc(), TOO_RICH, COMPOUNDS, &mut out)?,
+        Status::BadSystem
+    );
+    let text = str::from_utf8(out.written())?;
+    assert!(rt; text.starts_with("refused system infeasible "));
+    Ok(())
+}
+
+/// Two compounds, one of them written in ratios of two decimals.
+const TWO_RATIOS: &str =
+    "ELEMENT A X 1 0 0 !\nELEMENT B X 1 0 0 !\nPHASE LO % 2 .75 .25 !\nCONSTITUENT LO :A:B: !\nPARAMETER G(LO,A:B;0) 1 -10000; 6000 N !\nPHASE HI % 2 1 3 !\nCONSTITUENT HI :A:B: !\nPARAMETER G(HI,A:B;0) 1 -40000; 6000 N !\n";
+
+const BOTH: &str = "equilibrium --db X1 --t 1000 --amounts A=1,B=1 --lattice 10 --gap 1 --budget 0";
+
+/// Whether a report has the two entries, in formula units of their own ratios, and meets the totals.
+fn is_of_two_ratios(text: &str) -> bool {
+    text.contains("\nentry LO 10000000 10 : 10\nentry HI 250000000 10 : 10\n")
+        && text.contains(
+            "\ntotal 10000000000 10000000000\nenergy -20000000000000000000\ntolerance 0\n",
+        )
+}
+
+#[test]
+fn ratios_of_two_decimals_make_a_formula_unit_of_a_hundred(rt: HostRuntime) -> Result<(), Fail> {
+    let mut out = MemorySink::new(rt.alloc(), 4096, 8192)?;
+    assert_eq!(rt;
+        run_over(rt.alloc(), BOTH, TWO_RATIOS, &mut out)?,
+        Status::Done
+    );
+    let text = str::from_utf8(out.written())?;
+    assert!(rt; is_of_two_ratios(text));
     Ok(())
 }
 

@@ -32,7 +32,8 @@ fn product<'a>(
 ) -> Result<Option<(Items<Factor>, &'a [u8])>, AllocError>
     ensures { IfOk result (λ o. option_map (λ r. (map part_of r.0, r.1.now)) o ≡ product_at 16 text.now) }
 {
-    let mut all = Items::new(alloc);
+    let room = Vec::with_capacity(alloc, 1)?;
+    let mut all = Items::from_vec(room);
     let mut rest = text;
     'factors: for _ in 0u32..16 {
         let found = factor(alloc, rest)?;

@@ -5,8 +5,8 @@ use Rattle.cal_scan.specs.Bytes.{is_letter, is_digit}
 use Rattle.cal_scan.specs.Words.{same_word}
 use Rattle.cal_scan.specs.Constituents.{is_constituent}
 use Rattle.cal_scan.specs.Cuts.{cut_at}
-use Rattle.cef_core.specs.declared.kind.Kind.{Kind}
-use Rattle.cef_core.specs.declared.kind.Kind.TheVariants.{G, Tc, Beta, Unread, Other}
+use Rattle.cef_kind.specs.declared.kind.Kind.{Kind}
+use Rattle.cef_kind.specs.declared.kind.Kind.TheVariants.{G, Tc, Beta, Unread, Other}
 
 abbrev pub is_kind_byte : ℕ → Bool
 is_kind_byte b = is_letter b || is_digit b

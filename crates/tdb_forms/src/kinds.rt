@@ -6,7 +6,7 @@ ghost use Rattle.std.specs.Prelude.{if◌then◌else◌};
 ghost use Rattle.tdb_forms.specs.Kinds.{is_kind_byte, is_kind_word as kind_word, is_mobility as mobility, is_volume as volume, kind_name as name_of_kind, plain_kind as kind_of_name, kind_of};
 
 use cal_scan::{Name, cut_at, is_constituent, is_digit_byte, is_letter_byte, is_word};
-use cef_core::Kind;
+use cef_kind::Kind;
 use std::alloc::{AllocError, Global};
 
 fn all_may_stand(word: &[u8]) -> bool

@@ -1,4 +1,5 @@
 ghost use Rattle.std.specs.Prelude.{◌≡◌, ◌==◌, ◌++◌, ◌∷◌, [], ◌≤◌, ◌^◌, List, IfOk, map, length};
+ghost use Rattle.cal_limits.specs.declared.TheConstants.{MOST_DATABASE_BYTES};
 ghost use Rattle.std.specs.List.{slice_split};
 ghost use Rattle.tdb_lex.specs.Commands.{Cell, cell, visible, made, or_else, solid_line, cells, cells_of_lines, finished, unfinished, parts};
 ghost use Rattle.tdb_lex.specs.Outcome.{outcome, cut_of};
@@ -112,7 +113,7 @@ fn split_lines(alloc: Global, bytes: &[u8]) -> Result<Vec<&[u8]>, AllocError>
 
 /// The commands of a text, and the line of unfinished text behind them.
 pub fn commands(alloc: Global, bytes: &[u8]) -> Result<CommandList, AllocError>
-    requires { length bytes.now ≤ 2 ^ 24 }
+    requires { length bytes.now ≤ MOST_DATABASE_BYTES }
     ensures list { IfOk result (λ r. r.list ≡ finished (parts bytes.now)) }
     ensures unfinished { IfOk result (λ r. r.unfinished ≡ unfinished (parts bytes.now)) }
 {

@@ -185,6 +185,13 @@ ended f t root marks stack a e state =
       sum_is = state.turns.turns.sum_is;
     })
 
+-- and the marks hold for whatever is read next
+pub left : (f : Functions) (t : ℕ) (root : Ranged) (marks : List Mark) (stack : List Waiting) (a : Sum) → stack ≡ [] → IsState f t root marks stack (Ended a) →
+    IsValue f t root a.value × AreRight f t marks × AreFollowed marks []
+left f t root marks stack a e state =
+    let chain : Chain f t root [] state.followed state.ranged = subst (λ (ws : List Waiting). Chain f t root ws state.followed state.ranged) (ap reverse e) state.chain in
+    (ended f t root marks stack a e state, state.right, subst (λ (fs : List ℕ). AreFollowed marks fs) chain.0 state.marked)
+
 -- ---- the first state
 
 pub start : (f : Functions) (t : ℕ) (root : Ranged) (marks : List Mark) (stack : List Waiting) (turn : Turn) → stack ≡ [] → IsRanged root → AreRight f t marks → AreFollowed marks [] → TurnsOn f t marks root turn → IsState f t root marks stack turn

@@ -9,3 +9,5 @@ pub mod Marks
 pub mod Progress
 pub mod Chains
 pub mod States
+-- what is kept from one value to the next
+pub mod Keeping

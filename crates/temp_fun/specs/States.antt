@@ -1,5 +1,5 @@
 -- The state of a reading, and a step of it.
-use Rattle.std.specs.Prelude.{◌≡◌, ℕ, ◌+◌, ◌*◌, ◌<◌, List, length, reverse, Some, slice_get, Result, Ok, Err}
+use Rattle.std.specs.Prelude.{◌≡◌, ℕ, ◌+◌, ◌*◌, ◌<◌, List, [], length, reverse, Some, slice_get, Result, Ok, Err}
 use Rattle.tdb_expr.specs.declared.ranged.Ranged.{Ranged}
 use Rattle.temp_fun.specs.declared.mark.Mark.{Mark}
 use Rattle.temp_fun.specs.declared.mark.Mark.TheVariants.{Unvisited}
@@ -43,7 +43,7 @@ Follows f t marks stack turn r = (root : Ranged) → IsState f t root marks stac
 
 abbrev pub GoesFor : Functions → ℕ → Ranged → ℕ → Result After EvalFault → Type 0
 GoesFor f t root work (Ok (More next)) = IsState f t root next.marks.items next.stack.items next.turn × (work_left next.marks.items next.stack.items < work)
-GoesFor f t root work (Ok (Value v)) = IsValue f t root v
+GoesFor f t root work (Ok (Value v marks)) = IsValue f t root v × AreRight f t marks.items × AreFollowed marks.items []
 GoesFor f t root work (Err fault) = IsAnswer f t root (Err fault)
 
 abbrev pub Goes : Functions → ℕ → List Mark → List Waiting → Turn → Result After EvalFault → Type 0

@@ -4,6 +4,7 @@
 mod factor;
 mod fault;
 mod found;
+mod kept;
 mod laws;
 mod mark;
 mod partial;
@@ -17,5 +18,6 @@ mod valuing;
 mod waiting;
 
 pub use fault::EvalFault;
+pub use kept::{Kept, Valued};
 pub use laws::{one_outcome, some_outcome};
-pub use valuing::value;
+pub use valuing::{value, value_with};

@@ -1,4 +1,5 @@
 ghost use Rattle.std.specs.Prelude.{◌≡◌, ◌≤◌};
+ghost use Rattle.cal_limits.specs.declared.TheConstants.{LOWEST_TEMPERATURE, HIGHEST_TEMPERATURE};
 ghost use Rattle.cal_dec.specs.Decimals.{decimal_of};
 ghost use Rattle.temp_fun.specs.Values.{log_kelvin};
 
@@ -14,7 +15,7 @@ pub struct Reader<'a> {
     pub functions: &'a IndexMap<Name, Ranged>,
     pub t: u32,
     pub log: Dec,
-    pub ghost least: { 100 ≤ t },
-    pub ghost greatest: { t ≤ 600000 },
+    pub ghost least: { LOWEST_TEMPERATURE ≤ t },
+    pub ghost greatest: { t ≤ HIGHEST_TEMPERATURE },
     pub ghost log_is: { decimal_of log ≡ log_kelvin t },
 }

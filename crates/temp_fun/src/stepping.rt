@@ -86,7 +86,7 @@ fn finish<'a>(
         marks.items stack.entry.items (Ended sum) result }
 {
     match stack.pop() {
-        None => Ok(After::Value(sum.value)),
+        None => Ok(After::Value(sum.value, marks)),
         Some(waiting) => {
             marks[waiting.child] = done(sum);
             match resume(reader, marks.as_slice(), waiting) {

@@ -1,6 +1,7 @@
 //! Command lines.
 
-use cal_job::{WordsFault, read_words};
+use cal_job::{Request, WordsFault, read_words};
+use cal_scan::Name;
 use std::alloc::{AllocError, Global};
 
 /// The words behind the first one.
@@ -12,17 +13,48 @@ fn words(alloc: Global, row: &str) -> Result<Vec<String>, AllocError> {
     Ok(words)
 }
 
-/// The job that the words of a row ask for.
-pub fn job(alloc: Global, row: &str) -> Result<String, AllocError> {
+/// The elements with their amounts.
+fn amounts(alloc: Global, request: &Request) -> Result<String, AllocError> {
+    let mut text = String::new(alloc);
+    let mut comma = "";
+    let elements = request.job.elements.as_slice();
+    for (element, amount) in elements.iter().zip(request.amounts.as_slice()) {
+        let name = String::from_utf8_lossy(alloc, element.bytes())?;
+        text = format!(in alloc; "{text}{comma}{name}={amount}")?;
+        comma = ",";
+    }
+    Ok(text)
+}
+
+/// The listed phases.
+fn phases(alloc: Global, names: &[Name]) -> Result<String, AllocError> {
+    let mut text = String::new(alloc);
+    let mut comma = " phases ";
+    for name in names {
+        let name = String::from_utf8_lossy(alloc, name.bytes())?;
+        text = format!(in alloc; "{text}{comma}{name}")?;
+        comma = ",";
+    }
+    Ok(text)
+}
+
+fn request_text(alloc: Global, request: &Request) -> Result<String, AllocError> {
+    let amounts = amounts(alloc, request)?;
+    let phases = match &request.job.phases {
+        None => String::new(alloc),
+        Some(names) => phases(alloc, names.as_slice())?,
+    };
+    format!(in alloc;
+        "{}: {} {amounts} {} {} {}{phases}",
+        request.database, request.job.t, request.job.lattice, request.gap, request.budget
+    )
+}
+
+/// The request that the words of a row make.
+pub fn request(alloc: Global, row: &str) -> Result<String, AllocError> {
     let words = words(alloc, row)?;
     match read_words(alloc, words.as_slice()) {
-        Ok(job) => {
-            let element = String::from_utf8_lossy(alloc, job.element.bytes())?;
-            format!(in alloc;
-                "{}: {} {} {} {} {} {}",
-                job.database, job.t, element, job.amount, job.lattice, job.gap, job.budget
-            )
-        }
+        Ok(request) => request_text(alloc, &request),
         Err(WordsFault::Usage) => format!(in alloc; "no command"),
         Err(WordsFault::Memory) => Err(AllocError),
     }

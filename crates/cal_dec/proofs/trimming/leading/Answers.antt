@@ -1,7 +1,7 @@
-use Rattle.std.proofs.Common.{◌≡◌, ◌+◌, ◌/◌, ◌^◌, ap, sym, ◌∙◌, arith}
+use Rattle.std.proofs.Common.{◌≡◌, ◌/◌, ◌^◌, ap, sym, ◌∙◌, arith}
 use Rattle.std.proofs.Math.Nat.{div-one}
 use Rattle.cal_dec.specs.Decimals.{digits_over}
-use Rattle.cal_dec.specs.Trimming.{digits_over_small, digits_over-le, cut_of}
+use Rattle.cal_dec.specs.Trimming.{digits_over_small, digits_over_large, digits_over-le, tenth_of}
 use Rattle.cal_dec.proofs.trimming.leading.Goals as goal
 
 pub digits-init : goal.digits-init
@@ -12,12 +12,12 @@ digits-init c = record {
 }
 
 pub digits-smaller : goal.digits-smaller
-digits-smaller c = omega (arith, c.dropped_from-cut.ensures.over, c.dropped_from-cut.ensures.some_places)
+digits-smaller c = omega (arith, digits_over_large c.digits.magnitude (omega arith) (omega arith))
 
 pub digits-preserved : goal.digits-preserved
 digits-preserved c = record {
-  so_far = omega (arith, c.dropped_from-cut.ensures.over);
-  left = c.dropped_from-cut.ensures.number ∙ ap (λ n. n / 10 ^ c.dropped_from-cut.result.places) c.digits.invariant.left ∙ cut_of c.args.number c.digits.dropped c.dropped_from-cut.result.places;
+  so_far = omega (arith, digits_over_large c.digits.magnitude (omega arith) (omega arith));
+  left = ap (λ n. n / 10) c.digits.invariant.left ∙ tenth_of c.args.number c.digits.dropped;
   few = omega arith;
 }
 

@@ -1,16 +1,15 @@
-use Rattle.std.proofs.Common.{◌≡◌, sym, ◌∙◌, inl, inr}
-use Rattle.cal_base.specs.declared.status.Status.TheVariants.{Done}
-use Rattle.cal_top.specs.Replies.{seen}
-use Rattle.cal_top.proofs.Complete.{done, is_write_fault, not_write_fault}
+use Rattle.std.proofs.Common.{◌≡◌, ◌∙◌, inl, inr}
+use Rattle.cal_top.specs.Seen.{seen}
+use Rattle.cal_top.proofs.Complete.{done, is_write_fault}
 use Rattle.cal_top.proofs.running.run.Goals as goal
 
 pub returns-in-Ok-clause-complete : goal.returns-in-Ok-clause-complete
-returns-in-Ok-clause-complete g c = λ job bytes is no_read no_write.
+returns-in-Ok-clause-complete g c = λ is no_read no_write.
     elim (is_write_fault c.write.result) [
       | inl fault ↦ absurd (no_write (c.write.ensures.write fault).0)
       | inr fine ↦
           let same : c.write.result ≡ c.in-Ok.reply.status = (c.write.ensures.ok fine).0 in
-          inl (same ∙ done (seen (g.L.Library.told c.args.files.now) _ _ _ _) _ job bytes c.in-Ok.reply.status c.in-Ok.reply.text.items is no_read c.in-Ok.ensures.reply)
+          inl (same ∙ done (seen (g.L.Library.told c.args.files.now) _ _ _ _) _ c.in-Ok.reply.status c.in-Ok.reply.text.items is c.one_outcome.ensures.database c.one_outcome.ensures.apart no_read c.in-Ok.ensures.reply)
     ]
 
 pub returns-in-Ok-clause-replied : goal.returns-in-Ok-clause-replied

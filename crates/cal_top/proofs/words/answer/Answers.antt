@@ -1,10 +1,10 @@
 use Rattle.std.proofs.Common.{◌≡◌, Err, rules}
 use Rattle.cal_job.specs.declared.fault.WordsFault.TheVariants.{Usage}
-use Rattle.cal_top.specs.Replies.{usage, job}
+use Rattle.cal_top.specs.Replies.{usage, said}
 use Rattle.cal_top.proofs.words.answer.Goals as goal
 
 pub returns-in_ok-reply-in-Ok-clause-reply : goal.returns-in_ok-reply-in-Ok-clause-reply
-returns-in_ok-reply-in-Ok-clause-reply g c = job c.in-Ok.job c.in-Ok.ensures.says c.in_ok-reply-in-Ok.ensures.reply
+returns-in_ok-reply-in-Ok-clause-reply g c = said c.in-Ok.request c.in-Ok.ensures.says c.in_ok-reply-in-Ok.ensures.reply
 
 pub returns-in_ok-reply-in-Err-Usage-clause-reply : goal.returns-in_ok-reply-in-Err-Usage-clause-reply
 returns-in_ok-reply-in-Err-Usage-clause-reply g c =

@@ -1,49 +1,40 @@
-use Rattle.std.proofs.Common.{◌*◌, ◌≤◌, ◌^◌, arith, rules, SFits}
-use Rattle.std.specs.Int.{w128}
-use Rattle.std.specs.Prelude.{pos, ◌+ℤ◌, ◌*ℤ◌, ◌≤ℤ◌}
-use Rattle.std.proofs.lemmas.Int.{ints, to_z-of_z}
-use Rattle.eq_solve.specs.Figuring.{AreFigures}
-use Rattle.eq_solve.specs.Reporting.{Reports}
-use Rattle.eq_solve.proofs.Holding.{Holds-from_figures, IsNear-from_figures}
-use Rattle.eq_solve.proofs.Certified.{IsCertified-from_figures}
-use Rattle.eq_solve.proofs.Spelling.{lattice_within, IsSpelled-from_figures}
+use Rattle.std.proofs.Common.{◌≡◌, refl, ◌∙◌}
+use Rattle.eq_solve.specs.Single.{IsReady, IsSweptOnce}
+use Rattle.eq_solve.proofs.Asking.{can_solve}
+use Rattle.eq_solve.proofs.Lists.{rooms, settled_from}
+use Rattle.eq_solve.proofs.Reported.{holds_from, certified_from, near_from, spelled_from}
+use Rattle.eq_solve.proofs.Sizing.{sized}
 use Rattle.eq_solve.proofs.solving.equilibrium.Goals as goal
 
+pub starts_of-requires : goal.starts_of-requires
+starts_of-requires g c = rw c.as_slice.ensures (rooms c.args.system.now c.requires.system)
+
+pub equilibrium_by_rounds-requires-clause-ready : goal.equilibrium_by_rounds-requires-clause-ready
+equilibrium_by_rounds-requires-clause-ready g c = record { system_is = c.requires.system; built = c.requires.built; models = c.requires.models }
+
+pub equilibrium_by_rounds-requires-clause-can : goal.equilibrium_by_rounds-requires-clause-can
+equilibrium_by_rounds-requires-clause-can g c =
+    can_solve c.args.system.now c.args.asked.now c.args.gap (sized c.args.system.now c.requires.system c.requires.built) c.requires.asked c.requires.gap_low c.requires.gap_high
+
 pub returns-clause-holds : goal.returns-clause-holds
-returns-clause-holds c =
-    let fits_asked = c.ranges.asked in
-    let fits_margin : SFits w128 c.from-margin.result = search rules in
-    let figures : AreFigures c.args.system.now.phases c.args.system.now.lattice c.args.asked c.from-margin.result c.figures_of-figures.result = rw (← c.as_slice.ensures) (simp to_z-of_z at c.figures_of-figures.ensures) in
-    let reports : Reports c.args.system.now c.args.asked c.figures_of-figures.result c.in_ok-report.report = simp to_z-of_z at c.in_ok-report.ensures in
-    let some : 1 ≤ c.args.system.now.lattice = omega (arith, lattice_within c.args.system.now.lattice c.requires.lattice) in
-    Holds-from_figures c.args.system.now c.args.asked c.from-margin.result c.figures_of-figures.result c.in_ok-report.report c.requires.one_element some c.requires.pure figures reports
+returns-clause-holds g c =
+    holds_from c.args.system.now (IsSweptOnce c.args.system.now) c.args.asked.now c.args.gap c.args.budget c.in_ok-found.found c.in_ok-report.report c.in_ok-found.ensures.found c.in_ok-report.ensures
 
 pub returns-clause-certified : goal.returns-clause-certified
-returns-clause-certified c =
-    let fits_asked = c.ranges.asked in
-    let fits_margin : SFits w128 c.from-margin.result = search rules in
-    let figures : AreFigures c.args.system.now.phases c.args.system.now.lattice c.args.asked c.from-margin.result c.figures_of-figures.result = rw (← c.as_slice.ensures) (simp to_z-of_z at c.figures_of-figures.ensures) in
-    let reports : Reports c.args.system.now c.args.asked c.figures_of-figures.result c.in_ok-report.report = simp to_z-of_z at c.in_ok-report.ensures in
-    let within : (pos c.args.system.now.lattice *ℤ (c.from-margin.result +ℤ pos 1)) ≤ℤ pos (65536 * c.args.gap) = rw c.from-margin.ensures (omega (arith, ints, c.margin_of.ensures.within)) in
-    let some : 1 ≤ c.args.system.now.lattice = omega (arith, lattice_within c.args.system.now.lattice c.requires.lattice) in
-    IsCertified-from_figures c.args.system.now c.args.asked c.from-margin.result c.args.gap c.figures_of-figures.result c.in_ok-report.report c.requires.one_element some c.requires.pure within figures reports
-
-pub returns-clause-spelled : goal.returns-clause-spelled
-returns-clause-spelled c =
-    let fits_asked = c.ranges.asked in
-    let fits_margin : SFits w128 c.from-margin.result = search rules in
-    let figures : AreFigures c.args.system.now.phases c.args.system.now.lattice c.args.asked c.from-margin.result c.figures_of-figures.result = rw (← c.as_slice.ensures) (simp to_z-of_z at c.figures_of-figures.ensures) in
-    let reports : Reports c.args.system.now c.args.asked c.figures_of-figures.result c.in_ok-report.report = simp to_z-of_z at c.in_ok-report.ensures in
-    let asked_low : pos 0 ≤ℤ c.args.asked = omega (arith, ints, c.requires.asked_low) in
-    let margin_low : pos 0 ≤ℤ c.from-margin.result = rw c.from-margin.ensures (omega (arith, ints)) in
-    let margin_high : c.from-margin.result ≤ℤ pos (2 ^ 60) = rw c.from-margin.ensures (omega (arith, ints, c.margin_of.ensures.size)) in
-    IsSpelled-from_figures c.args.system.now c.args.asked c.from-margin.result c.figures_of-figures.result c.in_ok-report.report c.requires.one_element c.requires.pure
-    c.requires.temperature_low c.requires.temperature_high c.requires.lattice c.requires.elements c.requires.phases asked_low c.requires.asked_high margin_low margin_high figures reports
+returns-clause-certified g c =
+    certified_from c.args.system.now (IsSweptOnce c.args.system.now) c.args.asked.now c.args.gap c.args.budget c.in_ok-found.found c.in_ok-report.report c.in_ok-found.ensures.found c.in_ok-report.ensures
 
 pub returns-clause-near : goal.returns-clause-near
-returns-clause-near c =
-    let fits_asked = c.ranges.asked in
-    let fits_margin : SFits w128 c.from-margin.result = search rules in
-    let figures : AreFigures c.args.system.now.phases c.args.system.now.lattice c.args.asked c.from-margin.result c.figures_of-figures.result = rw (← c.as_slice.ensures) (simp to_z-of_z at c.figures_of-figures.ensures) in
-    let reports : Reports c.args.system.now c.args.asked c.figures_of-figures.result c.in_ok-report.report = simp to_z-of_z at c.in_ok-report.ensures in
-    IsNear-from_figures c.args.system.now c.args.asked c.from-margin.result c.figures_of-figures.result c.in_ok-report.report c.requires.pure figures reports
+returns-clause-near g c =
+    near_from c.args.system.now (IsSweptOnce c.args.system.now) c.args.asked.now c.args.gap c.args.budget c.in_ok-found.found c.in_ok-report.report c.in_ok-found.ensures.found c.in_ok-report.ensures
+
+pub returns-clause-spelled : goal.returns-clause-spelled
+returns-clause-spelled g c =
+    spelled_from c.args.system.now (IsSweptOnce c.args.system.now) c.args.asked.now c.args.gap c.args.budget c.in_ok-found.found c.in_ok-report.report c.requires.system (sized c.args.system.now c.requires.system c.requires.built) c.requires.asked c.requires.gap_high
+    c.in_ok-found.ensures.found c.in_ok-found.ensures.found.closes.0 c.in_ok-report.ensures
+
+pub returns-clause-trees : goal.returns-clause-trees
+returns-clause-trees g c = c.in_ok-report.ensures.trees ∙ c.in_ok-found.ensures.found.closes.0
+
+pub returns-clause-feasible : goal.returns-clause-feasible
+returns-clause-feasible g c = c.in_ok-found.ensures.feasible

@@ -4,7 +4,7 @@ use Rattle.temp_fun.proofs.Marking.{unvisited_push, unvisited_none}
 use Rattle.temp_fun.proofs.valuing.unvisited.Goals as goal
 
 pub marks-init : goal.marks-init
-marks-init c = record { unvisited = unvisited_none c.new-marks.result.items c.new-marks.ensures.items }
+marks-init c = record { unvisited = unvisited_none c.in_ok-marks.marks.items c.in_ok-marks.ensures.items }
 
 pub marks-preserved : goal.marks-preserved
 marks-preserved c = record { unvisited = unvisited_push c.marks.counter c.marks.marks.items c.push.new.self.items c.in_ok-push.ensures.items c.marks.invariant.unvisited }

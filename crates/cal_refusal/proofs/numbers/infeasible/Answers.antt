@@ -1,0 +1,16 @@
+use Rattle.std.proofs.Common.{rules, ◌≡◌, ◌∙◌, List, ℕ, get_or}
+use Rattle.std.specs.Prelude.{codes, pos, string_bytes}
+use Rattle.cal_refusal.specs.Refusals.{spaced}
+use Rattle.cal_refusal.proofs.Spacing.{spaced_none, spaced_on}
+use Rattle.cal_refusal.proofs.numbers.infeasible.Goals as goal
+
+pub numbers-init : goal.numbers-init
+numbers-init c =
+    let is : c.in_ok-text.text.items ≡ codes "refused system infeasible" = search rules in
+    is ∙ spaced_none (codes "refused system infeasible") c.args.numbers.now
+
+pub numbers-preserved : goal.numbers-preserved
+numbers-preserved c =
+    let word : c.as_bytes.result.now ≡ spaced (get_or c.args.numbers.now c.numbers.number-index (pos 0)) = search rules in
+    spaced_on (codes "refused system infeasible") c.numbers.text.items c.extend_from_slice.new.self.items c.as_bytes.result.now c.args.numbers.now c.numbers.number-index _
+    c.numbers-test.true word c.in_ok-extend_from_slice.ensures.items c.numbers.invariant

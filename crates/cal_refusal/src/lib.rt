@@ -1,0 +1,10 @@
+//! The line of each refusal.
+#![tactic(auto)]
+
+mod lines;
+mod numbers;
+mod system;
+
+pub use lines::{LONG, READ, UNBUILT, USAGE, database};
+pub use numbers::infeasible;
+pub use system::system_refusal;

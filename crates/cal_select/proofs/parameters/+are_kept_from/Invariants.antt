@@ -1,0 +1,5 @@
+use Rattle.std.proofs.Common.{◌≡◌, take, map, length, false, drop}
+use Rattle.cal_select.proofs.parameters.+are_kept_from.Given as goal
+
+abbrev pub decreases-are_kept_from : goal.decreases-are_kept_from
+decreases-are_kept_from l = length l.kept.now

@@ -1,0 +1,94 @@
+-- What `equilibrium` replies over the bytes of its database, and why: one constructor for each cause.
+use Rattle.std.specs.Prelude.{◌≡◌, ◌≢◌, ℕ, ◌*◌, List, ◌∷◌, map, Err, Ok, ℤ, pos, if◌then◌else◌}
+use Rattle.cal_words.specs.declared.rules.Rule.{Rule}
+use Rattle.cal_base.specs.declared.status.Status.{Status}
+use Rattle.cal_base.specs.declared.status.Status.TheVariants.{Done, BadDatabase, BadSystem}
+use Rattle.cal_scan.specs.Names.{same_name}
+use Rattle.cal_job.specs.declared.request.Request.{Request}
+use Rattle.cal_job.specs.Saying.{Word}
+use Rattle.cef_core.specs.declared.job.Job.{Job}
+use Rattle.cef_core.specs.declared.system.System.{System}
+use Rattle.cef_report.specs.declared.report.Report.{Report}
+use Rattle.cef_report.specs.Holding.{Holds}
+use Rattle.cef_report.specs.Certificates.{IsCertified}
+use Rattle.cef_report.specs.Feasibility.{IsFeasible, IsProofOfNone}
+use Rattle.cef_report.specs.Spelled.{IsSpelled}
+use Rattle.cef_report.specs.Texts.{text}
+use Rattle.tdb_read.specs.Database.{Database}
+use Rattle.tdb_read.specs.Folding.{IsDatabase, IsFault}
+use Rattle.cal_select.specs.declared.fault.SystemFault.{SystemFault}
+use Rattle.cal_select.specs.declared.fault.SystemFault.TheVariants as faults
+use Rattle.cal_select.specs.Causes.{Answers}
+use Rattle.eq_solve.specs.Answers.{IsNear}
+use Rattle.eq_solve.specs.Single.{IsBuilt, only_leaf}
+use Rattle.cal_refusal.specs.Refusals.{database_line, system_line, unbuilt_line, infeasible_line}
+
+-- ---- what is asked
+
+-- the amount beside the name of its element, and 0 where it is not asked
+abbrev pub amount_beside : List Word → List ℕ → Word → ℕ
+amount_beside (element ∷ elements) (amount ∷ amounts) name =
+    if same_name name element then amount else amount_beside elements amounts name
+amount_beside _ _ name = 0
+
+-- the asked totals in the order of the system's elements, in units of 1/N nmol
+abbrev pub totals_asked : Request → List Word → List ℤ
+totals_asked request elements =
+    map (λ name. pos (amount_beside request.job.elements request.amounts name * request.job.lattice)) elements
+
+abbrev pub asked_of : Request → System → List ℤ
+asked_of request system = totals_asked request system.elements
+
+-- ---- the system
+
+-- the database gives this system for the job
+abbrev pub IsSelected : Database → Job → System → Type 0
+IsSelected db job system = Answers db job (Ok system)
+
+-- this is the first cause why it gives none
+pub record IsRefused (db : Database) (job : Job) (fault : SystemFault) : Type 0 where
+  pub no_want : fault ≢ faults.Memory
+  pub first : Answers db job (Err fault)
+
+-- ---- the equilibrium
+
+-- The text is that of one report, which holds for the system and what is asked of it, with its certificate for the asked gap. Each tree
+-- is one leaf with the multiplier 0 for each sublattice, and the report is within the limits of texts.
+pub record IsAnswer (system : System) (request : Request) (printed : List ℕ) : Type 0 where
+  pub report : Report
+  pub printed_is : printed ≡ text report
+  pub holds : Holds system (asked_of request system) report
+  pub certified : IsCertified system request.gap report
+  pub near : IsNear system report
+  pub feasible : IsFeasible system (asked_of request system)
+  pub trees : report.trees ≡ map only_leaf system.phases
+  pub spelled : IsSpelled report
+
+-- The numbers show that the asked totals are not feasible.
+pub record IsInfeasible (system : System) (request : Request) (numbers : List ℤ) : Type 0 where
+  pub shown : IsProofOfNone system (asked_of request system) numbers
+  pub infeasible : ¬ IsFeasible system (asked_of request system)
+
+-- The reply over a system.
+pub data FromSystem (system : System) (request : Request) (status : Status) (printed : List ℕ) : Type 0 where
+  -- a phase is not solved yet
+  unbuilt : ¬ IsBuilt system → status ≡ BadSystem → printed ≡ unbuilt_line → FromSystem system request status printed
+  -- no constitutions give the asked totals
+  infeasible : (numbers : List ℤ) → IsBuilt system → IsInfeasible system request numbers → status ≡ BadSystem → printed ≡ infeasible_line numbers →
+      FromSystem system request status printed
+  -- the equilibrium
+  answered : IsBuilt system → IsAnswer system request printed → status ≡ Done → FromSystem system request status printed
+
+-- The reply over a database.
+pub data FromDatabase (db : Database) (request : Request) (status : Status) (printed : List ℕ) : Type 0 where
+  -- there is no system
+  refused : (fault : SystemFault) → IsRefused db request.job fault → status ≡ BadSystem → printed ≡ system_line fault → FromDatabase db request status printed
+  -- there is this one
+  selected : (system : System) → IsSelected db request.job system → FromSystem system request status printed → FromDatabase db request status printed
+
+-- The reply over the bytes of the database.
+pub data FromBytes (bytes : List ℕ) (request : Request) (status : Status) (printed : List ℕ) : Type 0 where
+  -- the text has a first fault
+  bad_database : (line : ℕ) (rule : Rule) → IsFault bytes line rule → status ≡ BadDatabase → printed ≡ database_line line rule → FromBytes bytes request status printed
+  -- it has none, and this is its database
+  database : (db : Database) → IsDatabase bytes db → FromDatabase db request status printed → FromBytes bytes request status printed

@@ -1,0 +1,172 @@
+//! The energies of mixing of one sublattice, for 0 to N parts.
+
+ghost use Rattle.std.specs.Prelude.{◌≡◌, ℕ, ◌+◌, ◌*◌, ◌-◌, ◌/◌, ◌^◌, ◌<◌, ◌≤◌, IfOk, true, length, ℤ, pos, ◌*ℤ◌, ◌≤ℤ◌, unsigned_abs};
+ghost use Rattle.std.specs.Bool.{OnTrue};
+ghost use Rattle.cal_limits.specs.declared.TheConstants.{HIGHEST_TEMPERATURE, MOST_RATIOS, MOST_ENERGY, GAS_CONSTANT};
+ghost use Rattle.cal_math.specs.Logarithm.{log_of};
+ghost use Rattle.cef_core.specs.Mixing.{mixing_at};
+ghost use Rattle.cef_mix.specs.Mixes.{IsLeastOn};
+ghost use Rattle.cef_mix.specs.Tables.{entry, IsConvex, AreEnergies};
+
+use crate::least::{least_by_halves, least_of_all, rise};
+use cal_limits::GAS_CONSTANT;
+use cal_log::Logs;
+use std::alloc::{AllocError, Global};
+use std::marker::Model;
+
+/// The energies of mixing of a sublattice with this ratio. Contracts see what they depend on.
+#[derive(Drop)]
+pub struct Table {
+    t: u32,
+    lattice: u32,
+    ratio: u32,
+    /// In µJ per mol of formula units.
+    energies: Vec<i64>,
+    /// Whether the differences were found not to fall.
+    is_convex: bool,
+}
+
+impl Model for Table {
+    ghost use Rattle.cef_mix.specs.Tables.{Mixed, mixed_code, IsTable};
+
+    ghost Value = { Mixed };
+
+    ghost coded = { mixed_code };
+
+    ghost view = { λ b. record { t = b.t; lattice = b.lattice; ratio = b.ratio } };
+
+    ghost invariant = { λ b. IsTable b.t b.lattice b.ratio b.energies.items b.is_convex };
+}
+
+impl Table {
+    /// The table of a sublattice. It takes eight bytes for each of its N + 1 energies.
+    pub fn build(
+        alloc: Global,
+        t: u32,
+        lattice: u32,
+        ratio: u32,
+        logs: &Logs,
+    ) -> Result<Table, AllocError>
+        requires hottest { t ≤ HIGHEST_TEMPERATURE }
+        requires lattice_low { 1 ≤ lattice }
+        requires lattice_high { lattice ≤ 1000 }
+        requires ratio { ratio ≤ MOST_RATIOS }
+        requires room { 600000 * t * ratio ≤ MOST_ENERGY }
+        requires reach { lattice ≤ logs.now }
+        ensures { IfOk result (λ table. table ≡ record { t = t; lattice = lattice; ratio = ratio }) }
+    {
+        let energies = energies_of(alloc, t, lattice, ratio, logs)?;
+        let is_convex = is_convex(energies.as_slice());
+        Ok(Table {
+            t,
+            lattice,
+            ratio,
+            energies,
+            is_convex,
+        })
+    }
+
+    /// The ratio of the sublattice.
+    pub fn ratio(&self) -> u32
+        ensures { result ≡ self.now.ratio }
+    {
+        self.ratio
+    }
+
+    /// The energy of mixing of so many parts, in µJ per mol of formula units.
+    pub fn h(&self, k: u16) -> i128
+        requires { k ≤ self.now.lattice }
+        ensures { result ≡ mixing_at self.now.t self.now.lattice self.now.ratio k }
+    {
+        i128::from(self.energies[usize::from(k)])
+    }
+
+    /// The least of 2^16 times the energy less the slope's share, from the low to the high count.
+    #[tactic(auto, using(crate::proofs::Halves::as_mixing))]
+    pub fn least_on(&self, low: u16, high: u16, slope: i128) -> i128
+        requires order { low ≤ high }
+        requires within { high ≤ self.now.lattice }
+        requires slope { unsigned_abs slope * self.now.lattice ≤ 2 ^ 119 }
+        ensures { IsLeastOn (mixing_at self.now.t self.now.lattice self.now.ratio) slope low high result }
+    {
+        if self.is_convex {
+            least_by_halves(self.energies.as_slice(), low, high, slope)
+        } else {
+            least_of_all(self.energies.as_slice(), low, high, slope)
+        }
+    }
+}
+
+/// The energies of mixing of 0 to N parts.
+fn energies_of(
+    alloc: Global,
+    t: u32,
+    lattice: u32,
+    ratio: u32,
+    logs: &Logs,
+) -> Result<Vec<i64>, AllocError>
+    requires hottest { t ≤ HIGHEST_TEMPERATURE }
+    requires lattice_low { 1 ≤ lattice }
+    requires lattice_high { lattice ≤ 1000 }
+    requires ratio { ratio ≤ MOST_RATIOS }
+    requires room { 600000 * t * ratio ≤ MOST_ENERGY }
+    requires reach { lattice ≤ logs.now }
+    ensures { IfOk result (λ energies. AreEnergies t lattice ratio energies.items) }
+{
+    let mut energies = Vec::with_capacity(alloc, lattice as usize + 1)?;
+    energies.push(0)?;
+    'each: for k in 1..lattice + 1 {
+        energies.push(mixing(t, lattice, ratio, k, logs))?;
+    }
+    Ok(energies)
+}
+
+/// The energy of mixing of k parts of N, at least one.
+#[tactic(auto, using(crate::proofs::Energies::mixing_rules))]
+fn mixing(t: u32, n: u32, ratio: u32, k: u32, logs: &Logs) -> i64
+    requires hottest { t ≤ HIGHEST_TEMPERATURE }
+    requires lattice { n ≤ 1000 }
+    requires ratio { ratio ≤ MOST_RATIOS }
+    requires room { 600000 * t * ratio ≤ MOST_ENERGY }
+    requires reach { n ≤ logs.now }
+    requires some { 1 ≤ k }
+    requires within { k ≤ n }
+    ensures exact { result ≡ mixing_at t n ratio k }
+    ensures small { unsigned_abs result ≤ MOST_ENERGY }
+{
+    let log = logs.at(n).unsigned_abs() - logs.at(k).unsigned_abs();
+    let number = spent(t, n, ratio, k, log);
+    0 - number as i64
+}
+
+/// What mixing takes off an energy, for the logarithm of N over k.
+#[tactic(auto, using(crate::proofs::Energies::spent_rules))]
+fn spent(t: u32, n: u32, ratio: u32, k: u32, log: u128) -> u128
+    requires hottest { t ≤ HIGHEST_TEMPERATURE }
+    requires lattice { n ≤ 1000 }
+    requires ratio { ratio ≤ MOST_RATIOS }
+    requires some { 1 ≤ k }
+    requires within { k ≤ n }
+    requires log { log ≤ 7216000000000000 }
+    ensures exact { result ≡ GAS_CONSTANT * t * ratio * k * log / (n * 10000000000000000) }
+    ensures small { result ≤ 600000 * t * ratio }
+{
+    let energy = u128::from(GAS_CONSTANT) * u128::from(t) * u128::from(ratio);
+    energy * u128::from(k) * log / (u128::from(n) * 10_000_000_000_000_000)
+}
+
+/// Whether the differences from one count to the next do not fall.
+fn is_convex(energies: &[i64]) -> bool
+    requires some { 1 ≤ length energies.now }
+    requires small { (k : ℕ) → unsigned_abs (entry energies.now k) ≤ MOST_ENERGY }
+    ensures { OnTrue result (IsConvex (length energies.now - 1) (entry energies.now)) }
+{
+    'each: for k in 2..energies.len() {
+        let before = rise(energies[k - 2], energies[k - 1]);
+        let behind = rise(energies[k - 1], energies[k]);
+        if behind < before {
+            return false;
+        }
+    }
+    true
+}

@@ -1,0 +1,2 @@
+pub mod Sublattices
+pub mod Adding

@@ -1,0 +1,4 @@
+-- The low and the high of a parameter over a box.
+pub mod Bounds
+-- Workings: what a term keeps.
+pub mod Kept

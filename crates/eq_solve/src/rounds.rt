@@ -1,0 +1,105 @@
+ghost use Rattle.std.specs.Prelude.{◌≡◌, IfOk, IfErr};
+ghost use Rattle.cef_report.specs.Feasibility.{IsFeasible};
+ghost use Rattle.eq_solve.specs.Answers.{IsFault};
+ghost use Rattle.eq_solve.specs.Finding.{IsFound};
+ghost use Rattle.eq_solve.specs.Knowing.{IsKnowing};
+ghost use Rattle.eq_solve.specs.Rounds.{CanSolve};
+
+use crate::fault::SolveFault;
+use crate::found::Found;
+use crate::known::Known;
+use crate::phases::Phases;
+use crate::point::{Point, Round};
+use crate::proposal::is_constitution;
+use crate::round::round;
+use cef_core::System;
+use cef_report::Entry;
+use std::alloc::{AllocError, Global};
+
+/// What is known with a start among it, where that is a constitution.
+fn with_start<P: Phases>(
+    alloc: Global,
+    system: &System,
+    phases: &P,
+    known: Known,
+    start: &Entry,
+) -> Result<Known, AllocError>
+    requires ready { P.ready phases.now }
+    requires same { P.system phases.now ≡ system.now }
+    requires known { IsKnowing system.now known }
+    ensures { IfOk result (λ more. IsKnowing system.now more) }
+{
+    if is_constitution(system, start) {
+        let site = start.site.copy(alloc)?;
+        let entry = Entry {
+            phase: start.phase,
+            amount: 0,
+            site,
+        };
+        let column = phases.column(alloc, &entry)?;
+        let more = known.with(Point { entry, column })?;
+        Ok(more)
+    } else {
+        Ok(known)
+    }
+}
+
+/// What is known at the start.
+fn known_of<P: Phases>(
+    alloc: Global,
+    system: &System,
+    phases: &P,
+    starts: &[Entry],
+) -> Result<Known, AllocError>
+    requires ready { P.ready phases.now }
+    requires same { P.system phases.now ≡ system.now }
+    ensures { IfOk result (λ known. IsKnowing system.now known) }
+{
+    let mut known = Known::new(alloc);
+    'starts: for start in starts {
+        known = with_start(alloc, system, phases, known, start)?;
+    }
+    Ok(known)
+}
+
+/// The numbers of an equilibrium of a system for the asked totals in units of 1/N nmol, the asked gap in µJ per mol of components, and the
+/// budget of splits of each sweep. It works in rounds: an exact plan over the known constitutions, and a sweep under its potentials, lowered
+/// by the margin, which closes or finds a constitution that was not known. Any starts serve: those that are no constitutions are left out.
+pub(crate) fn equilibrium_by_rounds<P: Phases>(
+    alloc: Global,
+    system: &System,
+    phases: &P,
+    starts: &[Entry],
+    asked: &[i128],
+    gap: u64,
+    budget: u64,
+) -> Result<Found, SolveFault>
+    requires ready { P.ready phases.now }
+    requires same { P.system phases.now ≡ system.now }
+    requires can { CanSolve system.now asked.now gap }
+    ensures found { IfOk result (λ found. IsFound system.now (P.swept phases.now) asked.now gap budget found) }
+
+    // An answer other than `Infeasible` and `Memory` comes only where the asked totals are feasible.
+    ensures feasible { IfOk result (λ found. IsFeasible system.now asked.now) }
+    ensures fault { IfErr result (λ fault. IsFault system.now (P.swept phases.now) asked.now gap budget fault) }
+{
+    let mut known = known_of(alloc, system, phases, starts)?;
+    'rounds: loop {
+        let next = round(
+            alloc,
+            system,
+            phases,
+            asked,
+            gap,
+            budget,
+            &known.entries,
+            &known.columns,
+        )?;
+        match next {
+            Round::Done(found) => return Ok(found),
+            Round::Next(point) => {
+                known = known.with(point)?;
+            }
+        }
+    }
+}

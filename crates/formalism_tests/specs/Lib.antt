@@ -1,0 +1,2 @@
+-- The phases of the tests.
+pub mod Fixtures

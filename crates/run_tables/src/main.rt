@@ -1,0 +1,86 @@
+//! Runs over databases in memory. A row has the name of a text, behind each `|` a line that stands in it at a place or at its end,
+//! and behind `~` the words. What is printed is the status and the text of the run, in which `/` is a line feed; in a row it is `^`.
+#![tactic(auto)]
+
+mod texts;
+
+use cal_base::{MemoryLibrary, MemorySink};
+use cal_scan::{LINE_FEED, whole};
+use cal_top::run;
+use std::alloc::{AllocError, Global};
+use std::io;
+use texts::lines;
+
+/// Puts a line of two digits, a space and a text in its place, or at the end.
+fn put_line<'a>(lines: &mut Vec<&'a [u8]>, line: &'a [u8]) -> Result<(), AllocError> {
+    if let [tens, ones, _, text @ ..] = line {
+        let place = whole(&[*tens, *ones], 2).unwrap_or(0) as usize;
+        if place == 0 || place > lines.len() {
+            lines.push(text)?;
+        } else {
+            lines[place - 1] = text;
+        }
+    }
+    Ok(())
+}
+
+/// The bytes of the lines.
+fn database(alloc: Global, lines: &[&[u8]]) -> Result<Vec<u8>, AllocError> {
+    let mut bytes = Vec::new(alloc);
+    for line in lines {
+        for byte in *line {
+            bytes.push(if *byte == b'^' { LINE_FEED } else { *byte })?;
+        }
+        bytes.push(LINE_FEED)?;
+    }
+    Ok(bytes)
+}
+
+/// The bytes that a row's first half names.
+fn database_of(alloc: Global, half: &str) -> Result<Vec<u8>, AllocError> {
+    let mut parts = half.split('|');
+    let mut all = lines(alloc, parts.next().unwrap_or(""))?;
+    for line in parts {
+        put_line(&mut all, line.as_bytes())?;
+    }
+    database(alloc, all.as_slice())
+}
+
+fn words_of(alloc: Global, half: &str) -> Result<Vec<String>, AllocError> {
+    let mut words = Vec::new(alloc);
+    for word in half.split(' ') {
+        words.push(String::from_str(alloc, word)?)?;
+    }
+    Ok(words)
+}
+
+/// The bytes with a mark for each line feed.
+fn marked(alloc: Global, bytes: &[u8]) -> Result<String, AllocError> {
+    let mut marked = Vec::new(alloc);
+    for byte in bytes {
+        marked.push(if *byte == LINE_FEED { b'/' } else { *byte })?;
+    }
+    String::from_utf8_lossy(alloc, marked.as_slice())
+}
+
+/// The status and the text of a row's run.
+fn answer(alloc: Global, row: &str) -> Result<String, AllocError> {
+    let mut halves = row.split('~');
+    let bytes = database_of(alloc, halves.next().unwrap_or(""))?;
+    let words = words_of(alloc, halves.next().unwrap_or(""))?;
+    let mut files = MemoryLibrary::new(alloc);
+    files.add("DB", bytes.as_slice())?;
+    let mut out = MemorySink::new(alloc, 4096, 65536)?;
+    let status = run(alloc, words.as_slice(), &mut files, &mut out).number();
+    let text = marked(alloc, out.written())?;
+    format!(in alloc; "{status} {text}")
+}
+
+fn main(rt: HostRuntime) -> io::Result<()> {
+    for row in rt.lines(rt.alloc()) {
+        let row = row?;
+        let text = answer(rt.alloc(), row.as_str())?;
+        println!(rt; "{text} <- {row}")?;
+    }
+    Ok(())
+}
