@@ -9,7 +9,7 @@ use cal_list::{Items, one};
 use cef_core::{Kind, Name, ParamAt, PhaseAt};
 use std::alloc::{AllocError, Global};
 
-fn two<T: Drop>(alloc: Global, first: T, second: T) -> Result<Items<T>, AllocError>
+pub fn two<T: Drop>(alloc: Global, first: T, second: T) -> Result<Items<T>, AllocError>
     ensures { IfOk result (λ items. items ≡ first ∷ second ∷ []) }
 {
     let mut items = one(alloc, first)?;
@@ -17,7 +17,7 @@ fn two<T: Drop>(alloc: Global, first: T, second: T) -> Result<Items<T>, AllocErr
     Ok(items)
 }
 
-fn three<T: Drop>(alloc: Global, first: T, second: T, third: T) -> Result<Items<T>, AllocError>
+pub fn three<T: Drop>(alloc: Global, first: T, second: T, third: T) -> Result<Items<T>, AllocError>
     ensures { IfOk result (λ items. items ≡ first ∷ second ∷ third ∷ []) }
 {
     let mut items = two(alloc, first, second)?;

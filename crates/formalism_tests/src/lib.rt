@@ -9,3 +9,5 @@ mod energies;
 mod fixture;
 #[cfg(test)]
 mod parameters;
+#[cfg(test)]
+mod points;

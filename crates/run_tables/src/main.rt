@@ -1,5 +1,6 @@
-//! Runs over databases in memory. A row has the name of a text, behind each `|` a line that stands in it at a place or at its end,
-//! and behind `~` the words. What is printed is the status and the text of the run, in which `/` is a line feed; in a row it is `^`.
+//! Runs over databases in memory. A row says what it shows; behind its first `~` are the name of a text and behind each `|` a line that
+//! stands in it at a place or at its end; behind its second are the words. What is printed is what the row shows, the status and the
+//! text of the run, in which `/` is a line feed; in a row it is `^`.
 #![tactic(auto)]
 
 mod texts;
@@ -36,9 +37,9 @@ fn database(alloc: Global, lines: &[&[u8]]) -> Result<Vec<u8>, AllocError> {
     Ok(bytes)
 }
 
-/// The bytes that a row's first half names.
-fn database_of(alloc: Global, half: &str) -> Result<Vec<u8>, AllocError> {
-    let mut parts = half.split('|');
+/// The bytes that a row's second part names.
+fn database_of(alloc: Global, named: &str) -> Result<Vec<u8>, AllocError> {
+    let mut parts = named.split('|');
     let mut all = lines(alloc, parts.next().unwrap_or(""))?;
     for line in parts {
         put_line(&mut all, line.as_bytes())?;
@@ -46,9 +47,9 @@ fn database_of(alloc: Global, half: &str) -> Result<Vec<u8>, AllocError> {
     database(alloc, all.as_slice())
 }
 
-fn words_of(alloc: Global, half: &str) -> Result<Vec<String>, AllocError> {
+fn words_of(alloc: Global, written: &str) -> Result<Vec<String>, AllocError> {
     let mut words = Vec::new(alloc);
-    for word in half.split(' ') {
+    for word in written.split(' ') {
         words.push(String::from_str(alloc, word)?)?;
     }
     Ok(words)
@@ -63,24 +64,25 @@ fn marked(alloc: Global, bytes: &[u8]) -> Result<String, AllocError> {
     String::from_utf8_lossy(alloc, marked.as_slice())
 }
 
-/// The status and the text of a row's run.
+/// What a row shows, with the status and the text of its run.
 fn answer(alloc: Global, row: &str) -> Result<String, AllocError> {
-    let mut halves = row.split('~');
-    let bytes = database_of(alloc, halves.next().unwrap_or(""))?;
-    let words = words_of(alloc, halves.next().unwrap_or(""))?;
+    let mut parts = row.split('~');
+    let shown = parts.next().unwrap_or("");
+    let bytes = database_of(alloc, parts.next().unwrap_or(""))?;
+    let words = words_of(alloc, parts.next().unwrap_or(""))?;
     let mut files = MemoryLibrary::new(alloc);
     files.add("DB", bytes.as_slice())?;
     let mut out = MemorySink::new(alloc, 4096, 65536)?;
     let status = run(alloc, words.as_slice(), &mut files, &mut out).number();
     let text = marked(alloc, out.written())?;
-    format!(in alloc; "{status} {text}")
+    format!(in alloc; "{shown}: {status} {text}")
 }
 
 fn main(rt: HostRuntime) -> io::Result<()> {
     for row in rt.lines(rt.alloc()) {
         let row = row?;
         let text = answer(rt.alloc(), row.as_str())?;
-        println!(rt; "{text} <- {row}")?;
+        println!(rt; "{text}")?;
     }
     Ok(())
 }

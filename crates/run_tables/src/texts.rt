@@ -26,11 +26,42 @@ const TWO_COMPOUNDS: [&[u8]; 8] = [
     b"PARAMETER G(AB2,A:B;0) 1 -30000; 6000 N !",
 ];
 
+/// A solution of two elements.
+const SOLUTION: [&[u8]; 5] = [
+    b"ELEMENT A ALPHA 10 0 0 !",
+    b"ELEMENT B BETA 10 0 0 !",
+    b"PHASE SOL % 1 1 !",
+    b"CONSTITUENT SOL :A,B: !",
+    b"ELEMENT C GAMMA 10 0 0 !",
+];
+
+/// Eight elements without a phase.
+const EIGHT_ELEMENTS: [&[u8]; 8] = [
+    b"ELEMENT A X 1 0 0 !",
+    b"ELEMENT B X 1 0 0 !",
+    b"ELEMENT C X 1 0 0 !",
+    b"ELEMENT D X 1 0 0 !",
+    b"ELEMENT E X 1 0 0 !",
+    b"ELEMENT F X 1 0 0 !",
+    b"ELEMENT G X 1 0 0 !",
+    b"ELEMENT H X 1 0 0 !",
+];
+
 /// The lines of the text of this name; none of another.
 pub fn lines(alloc: Global, name: &str) -> Result<Vec<&'static [u8]>, AllocError> {
     let mut lines = Vec::new(alloc);
     if name == "X1" {
         for line in TWO_PHASES {
+            lines.push(line)?;
+        }
+    }
+    if name == "X2" {
+        for line in SOLUTION {
+            lines.push(line)?;
+        }
+    }
+    if name == "E8" {
+        for line in EIGHT_ELEMENTS {
             lines.push(line)?;
         }
     }
