@@ -13,15 +13,22 @@ fn words(alloc: Global, row: &str) -> Result<Vec<String>, AllocError> {
     Ok(words)
 }
 
+/// An element with its amount.
+fn item(alloc: Global, element: &Name, amount: u64) -> Result<String, AllocError> {
+    let name = String::from_utf8_lossy(alloc, element.bytes())?;
+    format!(in alloc; "{name}={amount}")
+}
+
 /// The elements with their amounts.
 fn amounts(alloc: Global, request: &Request) -> Result<String, AllocError> {
     let mut text = String::new(alloc);
-    let mut comma = "";
     let elements = request.job.elements.as_slice();
     for (element, amount) in elements.iter().zip(request.amounts.as_slice()) {
-        let name = String::from_utf8_lossy(alloc, element.bytes())?;
-        text = format!(in alloc; "{text}{comma}{name}={amount}")?;
-        comma = ",";
+        if !text.is_empty() {
+            text.push_str(",")?;
+        }
+        let item = item(alloc, element, *amount)?;
+        text.push_str(item.as_str())?;
     }
     Ok(text)
 }
