@@ -35,52 +35,6 @@ CONSTITUENT M23C6 :CR,FE : CR,FE : C : !
 PARAMETER MQ&FE(M23C6,*:FE:C;2) 298.15 +EXP(T); 6000 N !
 ";
 
-/// A constituent of a phase's sublattice.
-fn constituent(db: &Db, phase: usize, sublattice: usize, place: usize) -> Option<&[u8]> {
-    if phase >= db.phase_count() {
-        return None;
-    }
-    let (_, text) = db.phase_at(phase);
-    let list = text.sites.as_slice().get(sublattice)?;
-    let name = list.as_slice().get(place)?;
-    Some(name.bytes())
-}
-
-/// Whether the constituent at a place is there and has this name.
-fn has_constituent(db: &Db, phase: usize, sublattice: usize, place: usize, name: &[u8]) -> bool {
-    match constituent(db, phase, sublattice, place) {
-        Some(found) => found == name,
-        None => false,
-    }
-}
-
-#[test]
-fn a_database_of_steel_is_read_without_a_fault(rt: HostRuntime) -> Result<(), Fail> {
-    let text = STEEL;
-    assert!(rt; text.len() < 10000);
-    let db = read(rt.alloc(), text)?;
-    assert_eq!(rt; db.element_count(), 5);
-    assert_eq!(rt; db.function_count(), 2);
-    assert_eq!(rt; db.phase_count(), 3);
-    assert_eq!(rt; db.parameter_count(), 6);
-    assert_eq!(rt; db.types().len(), 3);
-    let (name, line) = db.element_at(0);
-    assert_eq!(rt; (name.bytes(), line), (b"/-".as_slice(), 2));
-    let (name, text) = db.phase_at(0);
-    assert_eq!(rt; name.bytes(), b"LIQUID".as_slice());
-    assert_eq!(rt; text.suffix.bytes(), b"L".as_slice());
-    assert_eq!(rt; (text.line, text.ratios.len()), (17, 1));
-    let (name, text) = db.phase_at(1);
-    assert_eq!(rt; name.bytes(), b"BCC_A2".as_slice());
-    assert_eq!(rt; text.suffix.bytes().len(), 0);
-    assert_eq!(rt; text.codes.bytes(), b"%&".as_slice());
-    assert!(rt; has_constituent(&db, 1, 0, 1, b"FE"));
-    assert!(rt; has_constituent(&db, 1, 1, 1, b"VA"));
-    assert!(rt; has_constituent(&db, 2, 2, 0, b"C"));
-    assert!(rt; !has_constituent(&db, 2, 2, 1, b"C"));
-    Ok(())
-}
-
 /// The kind of the parameter at a place, with its kind's name, its order and the number of its lists.
 fn parameter(db: &Db, place: usize) -> Option<(Kind, &[u8], u8, usize)> {
     if place >= db.parameter_count() {
