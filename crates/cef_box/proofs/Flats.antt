@@ -1,10 +1,9 @@
 -- Rows of ranges that are kept flat.
-use Rattle.std.proofs.Common.{◌≡◌, ℕ, zero, suc, ◌+◌, ◌-◌, ◌≤◌, List, [], ◌∷◌, length, take, drop, ◌++◌, refl, arith, ap, sym, ◌∙◌}
+use Rattle.std.proofs.Common.{◌≡◌, ℕ, ◌+◌, ◌-◌, ◌≤◌, List, [], ◌∷◌, length, drop, ◌++◌, refl, arith, sym, ◌∙◌}
 use Rattle.std.specs.Prelude.{nat_le}
 use Rattle.std.proofs.lemmas.Bool.{leb-true}
-use Rattle.std.proofs.lemmas.List.{length-drop, length-take-le}
+use Rattle.std.proofs.lemmas.List.{length-drop}
 use Rattle.std.proofs.Math.Seq.{take-append_seam, drop-append_seam}
-use Rattle.cef_box.specs.declared.range.Range.{Range}
 use Rattle.cef_box.specs.Flat.{ranges, rows_of, AreFlat}
 use Rattle.cef_core.specs.Sublattices.{are_ends, parts_of}
 use Rattle.cef_core.proofs.Parts.{are_ends-le, both}

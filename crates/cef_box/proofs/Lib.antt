@@ -1,3 +1,15 @@
 pub mod Flats
 pub mod Shapes
 pub mod Grown
+pub mod Rows
+pub mod Tightened
+pub mod Cutting
+pub mod Placing
+pub mod Places
+pub mod Kept
+pub mod Parted
+pub mod Joined
+pub mod Singles
+pub mod Wide
+pub mod Raised
+pub mod Wholes

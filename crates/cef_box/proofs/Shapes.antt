@@ -1,8 +1,7 @@
 -- What the shape of flat rows says of the places behind them, and the counts of all rows as one list.
-use Rattle.std.proofs.Common.{◌≡◌, ℕ, zero, suc, ◌+◌, ◌-◌, ◌≤◌, List, [], ◌∷◌, length, take, drop, ◌++◌, refl, arith, ap, sym, ◌∙◌, true, Some, slice_get, map}
-use Rattle.std.specs.Prelude.{nat_le}
+use Rattle.std.proofs.Common.{◌≡◌, ℕ, zero, suc, ◌+◌, ◌-◌, List, [], ◌∷◌, length, take, drop, refl, arith, ap, sym, ◌∙◌, true, Some, slice_get, map}
 use Rattle.std.specs.List.{concat}
-use Rattle.std.proofs.lemmas.Bool.{leb-true, eqb-true}
+use Rattle.std.proofs.lemmas.Bool.{eqb-true}
 use Rattle.std.proofs.lemmas.List.{length-drop, length-take-le, length-append}
 use Rattle.std.proofs.lemmas.List.Sums.{sum_by-cons}
 use Rattle.std.specs.Prelude.{sum}
@@ -11,7 +10,6 @@ use Rattle.cef_core.specs.Shapes.{shape, places}
 use Rattle.cef_box.specs.Boxes.{lows_of, highs_of}
 use Rattle.cef_box.specs.Flat.{ranges, rows_of, AreFlat}
 use Rattle.cef_core.specs.Sublattices.{are_ends, parts_of}
-use Rattle.cef_core.proofs.Parts.{both}
 use Rattle.cef_core.proofs.Flats.{counts_flat}
 use Rattle.cef_box.proofs.Flats.{flat-low-le, flat-high-le, flat-rest, length-ranges, parts_of-joined}
 
@@ -28,10 +26,10 @@ shape-rows_of from (end ∷ ends) lows highs h =
     let first = length-ranges (take (end - from) lows) (take (end - from) highs) (la ∙ sym ha) ∙ la in
     rw (first, shape-rows_of end ends (drop (end - from) lows) (drop (end - from) highs) (flat-rest from end ends lows highs h)) refl
 
-head_is : (a b : ℕ) (xs ys : List ℕ) → a ∷ xs ≡ b ∷ ys → a ≡ b
+pub head_is : (a b : ℕ) (xs ys : List ℕ) → a ∷ xs ≡ b ∷ ys → a ≡ b
 head_is a b xs ys e = cc
 
-tail_is : (a b : ℕ) (xs ys : List ℕ) → a ∷ xs ≡ b ∷ ys → xs ≡ ys
+pub tail_is : (a b : ℕ) (xs ys : List ℕ) → a ∷ xs ≡ b ∷ ys → xs ≡ ys
 tail_is a b xs ys e = cc
 
 pub parts_of-concat : (from : ℕ) (ends : List ℕ) (site : List (List ℕ)) → shape site ≡ widths from ends → parts_of from ends (concat site) ≡ site
@@ -56,7 +54,7 @@ places-rows_of from (end ∷ ends) lows highs h =
     let more = sum_by-cons (λ (x : ℕ). x) (length (ranges (take (end - from) lows) (take (end - from) highs))) (shape (rows_of end ends (drop (end - from) lows) (drop (end - from) highs))) in
     omega (arith, first, rest, more, length-drop (end - from) lows, flat-low-le from end ends lows highs h)
 
-concat_places : (site : List (List ℕ)) → length (concat site) ≡ places site
+pub concat_places : (site : List (List ℕ)) → length (concat site) ≡ places site
 concat_places [] = refl
 concat_places (row ∷ site) = omega (arith, length-append row (concat site), concat_places site, sum_by-cons (λ (x : ℕ). x) (length row) (shape site))
 

@@ -5,9 +5,11 @@ ghost use Rattle.std.specs.Bool.{OnTrue, OnFalse};
 ghost use Rattle.std.specs.List.{concat};
 ghost use Rattle.cef_core.specs.Shapes.{shape, places};
 ghost use Rattle.cef_box.specs.Boxes.{IsMember, lows_of, highs_of};
-ghost use Rattle.cef_box.specs.Flat.{ranges};
+ghost use Rattle.cef_box.specs.Cuts.{range_at, placed_in};
+ghost use Rattle.cef_box.specs.Flat.{ranges, rows_of, AreFlat};
+ghost use Rattle.cef_box.specs.Tight.{HasSite, IsTightBox, tightened_box};
 
-use crate::flat::is_member;
+use crate::flat::{have_lists, is_member, place_in, tighten_rows};
 use crate::range::Range;
 use cef_core::{PhaseAt, Site, part_at};
 use smallvec::SmallVec;
@@ -38,6 +40,14 @@ impl Model for BoxRange {
 /// The ranges of one sublattice: the lows of its sites, and their highs.
 #[derive(Clone, Copy)]
 pub struct RowRange<'a> {
+    pub low: &'a [u16],
+    pub high: &'a [u16],
+}
+
+/// The lows and the highs of all sites, with the place behind each sublattice.
+#[derive(Clone, Copy)]
+pub(crate) struct FlatRanges<'a> {
+    pub ends: &'a [u16],
     pub low: &'a [u16],
     pub high: &'a [u16],
 }
@@ -150,6 +160,100 @@ impl BoxRange {
         ensures { result.now ≡ concat (highs_of self.now) }
     {
         self.high.as_slice()
+    }
+
+    /// How many sites there are.
+    #[tactic(auto, using(crate::proofs::Shapes::shapes))]
+    pub fn places(&self) -> usize
+        ensures { result ≡ places self.now }
+    {
+        self.low.len()
+    }
+
+    /// The range of a place. Places count on over the sublattices.
+    #[tactic(auto, using(crate::proofs::Places::at_place))]
+    pub fn range_at(&self, place: usize) -> Range
+        requires { place < places self.now }
+        ensures { range_at self.now place ≡ Some result }
+    {
+        Range {
+            low: self.low.as_slice()[place],
+            high: self.high.as_slice()[place],
+        }
+    }
+
+    /// The ranges as they are kept.
+    pub(crate) fn flat(&self) -> FlatRanges<'_>
+        ensures exact { rows_of 0 result.ends.now result.low.now result.high.now ≡ self.now }
+        ensures flat { AreFlat 0 result.ends.now result.low.now result.high.now }
+    {
+        FlatRanges {
+            ends: self.ends.as_slice(),
+            low: self.low.as_slice(),
+            high: self.high.as_slice(),
+        }
+    }
+
+    /// Whether each sublattice has a list.
+    pub(crate) fn has_lists(&self, n: u32) -> bool
+        ensures yes { OnTrue result (HasSite n self.now) }
+        ensures no { OnFalse result (HasSite n self.now → ⊥) }
+    {
+        have_lists(
+            n,
+            0,
+            self.ends.as_slice(),
+            self.low.as_slice(),
+            self.high.as_slice(),
+        )
+    }
+
+    /// Each range becomes the set of values that members take there.
+    pub(crate) fn tighten_lists(&mut self, n: u32)
+        requires { HasSite n self.old }
+        ensures { self.new ≡ tightened_box n self.old }
+    {
+        tighten_rows(
+            n,
+            0,
+            self.ends.as_slice(),
+            self.low.as_mut_slice(),
+            self.high.as_mut_slice(),
+        );
+    }
+
+    /// The box becomes another one of its shape.
+    #[tactic(auto, using(crate::proofs::Places::boxes))]
+    pub(crate) fn copy_from(&mut self, other: &BoxRange)
+        requires { shape self.old ≡ shape other.now }
+        ensures { self.new ≡ other.now }
+    {
+        self.low
+            .as_mut_slice()
+            .copy_from_slice(other.low.as_slice());
+        self.high
+            .as_mut_slice()
+            .copy_from_slice(other.high.as_slice());
+    }
+
+    /// The tight box has another range at a place, and is tightened again.
+    #[tactic(auto, using(crate::proofs::Shapes::shapes))]
+    pub(crate) fn narrow(&mut self, n: u32, place: usize, other: Range)
+        requires within { place < places self.old }
+        requires tight { IsTightBox n self.old }
+        requires has_site { HasSite n self.old }
+        requires placed_has { HasSite n (placed_in place other self.old) }
+        ensures { self.new ≡ tightened_box n (placed_in place other self.old) }
+    {
+        place_in(
+            n,
+            place,
+            other,
+            0,
+            self.ends.as_slice(),
+            self.low.as_mut_slice(),
+            self.high.as_mut_slice(),
+        );
     }
 }
 

@@ -3,8 +3,10 @@
 ghost use Rattle.std.specs.Prelude.{◌≡◌, ◌<◌, ◌^◌, length};
 ghost use Rattle.std.specs.Bool.{OnTrue, OnFalse};
 ghost use Rattle.cef_box.specs.Boxes.{IsInRow, AllWithin};
+ghost use Rattle.cef_box.specs.Cuts.{placed};
 ghost use Rattle.cef_box.specs.Flat.{ranges};
 
+use crate::range::Range;
 use cef_core::sum_of;
 
 /// Whether each count lies from its low to its high.
@@ -47,4 +49,17 @@ pub fn is_in_row(n: u32, low: &[u16], high: &[u16], counts: &[u16]) -> bool
     } else {
         false
     }
+}
+
+/// The row has another range at a place.
+#[tactic(auto, using(crate::proofs::Placing::placing))]
+pub fn place(at: usize, other: Range, low: &mut [u16], high: &mut [u16])
+    requires low_within { at < length low.old }
+    requires high_within { at < length high.old }
+    ensures exact { ranges low.new high.new ≡ placed at other (ranges low.old high.old) }
+    ensures low_length { length low.new ≡ length low.old }
+    ensures high_length { length high.new ≡ length high.old }
+{
+    low[at] = other.low;
+    high[at] = other.high;
 }

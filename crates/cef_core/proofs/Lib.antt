@@ -1,5 +1,6 @@
 pub mod Parts
 pub mod Flats
+pub mod Written
 pub mod Contents
 mod Worked
 pub mod Capped

@@ -5,6 +5,7 @@ pub mod Parameters
 pub mod Mixing
 pub mod Magnetism
 pub mod Energies
+pub mod Worth
 pub mod Lattices
 -- What every phase and every system keeps, and how many lists of counts they have.
 pub mod Capped

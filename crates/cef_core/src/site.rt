@@ -1,5 +1,6 @@
-ghost use Rattle.std.specs.Prelude.{◌≡◌, ◌<◌, ◌≤◌, ◌+◌, ◌^◌, ◌++◌, ◌∷◌, [], Some, IfOk, length, slice_get, true};
+ghost use Rattle.std.specs.Prelude.{◌≡◌, ◌<◌, ◌≤◌, ◌+◌, ◌^◌, ◌++◌, ◌∷◌, [], Some, IfOk, length, slice_get, slice_set, true};
 ghost use Rattle.std.specs.List.{concat};
+ghost use Rattle.cef_core.specs.Shapes.{shape};
 ghost use Rattle.cef_core.specs.Sublattices.{parts_of, are_ends, start_at, IsFlat};
 
 use smallvec::SmallVec;
@@ -76,6 +77,15 @@ impl Site {
         self.counts.as_slice()
     }
 
+    /// The count at a place becomes another one. Places count on over the sublattices.
+    pub fn set_count(&mut self, place: usize, count: u16)
+        requires { place < length (concat self.old) }
+        ensures counts { concat self.new ≡ slice_set (concat self.old) place count }
+        ensures shaped { shape self.new ≡ shape self.old }
+    {
+        write_at(self.counts.as_mut_slice(), place, count);
+    }
+
     /// The counts as they are kept.
     #[tactic(auto, using(crate::proofs::Flats::alone))]
     pub(crate) fn flat(&self) -> FlatCounts<'_>
@@ -125,4 +135,12 @@ fn start_of(ends: &[u16], place: usize) -> usize
         return 0;
     }
     usize::from(ends[place - 1])
+}
+
+/// The counts with another one at a place.
+fn write_at(counts: &mut [u16], place: usize, count: u16)
+    requires { place < length counts.old }
+    ensures { counts.new ≡ slice_set counts.old place count }
+{
+    counts[place] = count;
 }

@@ -50,6 +50,13 @@ impl Mix {
         })
     }
 
+    /// The number N of parts of each sublattice.
+    pub fn parts(&self) -> u32
+        ensures { result ≡ self.now.lattice }
+    {
+        self.lattice
+    }
+
     /// The energy of mixing of k of N parts of a site of the sublattice, in µJ per mol of formula units.
     pub fn h(&self, sublattice: usize, k: u16) -> i128
         requires sublattice { sublattice < length self.now.ratios }

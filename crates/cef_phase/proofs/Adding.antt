@@ -1,6 +1,6 @@
 -- The terms of a phase one by one, and the sum of its parts.
-use Rattle.std.proofs.Common.{◌≡◌, ℕ, zero, suc, ◌+◌, ◌*◌, ◌^◌, ◌<◌, ◌≤◌, List, [], ◌∷◌, ◌++◌, Option, Some, None, Bool, true, false, length, take, drop, map, slice_get, refl, arith, ap, sym, ◌∙◌, subst, add-one}
-use Rattle.std.specs.Prelude.{ℤ, pos, ◌+ℤ◌, unsigned_abs, filter, cond, sum, FitsSigned}
+use Rattle.std.proofs.Common.{◌≡◌, ℕ, zero, suc, ◌+◌, ◌*◌, ◌^◌, ◌<◌, ◌≤◌, List, [], ◌∷◌, ◌++◌, Option, Some, None, Bool, true, false, length, take, map, slice_get, refl, arith, ap, sym, ◌∙◌, subst, add-one}
+use Rattle.std.specs.Prelude.{ℤ, ◌+ℤ◌, unsigned_abs, filter, cond, FitsSigned}
 use Rattle.std.specs.Int.{w128}
 use Rattle.std.specs.List.{AllByRecursion}
 use Rattle.std.proofs.lemmas.Int.{ints}
@@ -10,16 +10,20 @@ use Rattle.cal_math.specs.Sums.{sum_of}
 use Rattle.cef_core.specs.declared.phase.ParamAt.{ParamAt}
 use Rattle.cef_core.specs.declared.phase.PhaseAt.{PhaseAt}
 use Rattle.cef_core.specs.Constitutions.{HasShape}
-use Rattle.cef_core.specs.Energies.{is_energy, sum_of_kind, energy}
+use Rattle.cef_core.specs.Energies.{is_energy, energy}
 use Rattle.cef_core.specs.Mixing.{mixing_over}
 use Rattle.cef_core.specs.Parameters.{parameter_value}
-use Rattle.cef_core.specs.Phases.{IsFine, sigma}
+use Rattle.cef_core.specs.Phases.{IsFine, magnitudes}
 use Rattle.cef_core.specs.Shapes.{shape}
+use Rattle.cef_kind.specs.declared.kind.Kind.{Kind}
+use Rattle.cef_box.specs.declared.range.Range.{Range}
 use Rattle.cef_box.specs.Terms.{FitsSite, shape_of_phase}
 use Rattle.cef_mix.specs.Mixes.{Mixing, mixing_of_phase}
 use Rattle.cef_term.specs.declared.param_term.ParamTerm.{ParamTerm}
-use Rattle.cef_phase.specs.Sizes.{AddUpTo, lattice_size, plus_small, shape_up_to, shape_adds}
-use Rattle.cef_phase.specs.Sums.{AreTerms, IsMixable, IsSum}
+use Rattle.cef_phase.specs.Sizes.{energy_size, lattice_size, plus_small, shape_up_to, shape_adds}
+use Rattle.cef_phase.specs.Sums.{AreTerms, IsMixed, IsSum, micros}
+use Rattle.cef_phase.proofs.Bounding.{bound_below, bound_same}
+use Rattle.cef_term.specs.Bounds.{parameter_low}
 
 -- one more of the list
 
@@ -106,10 +110,70 @@ shape_length n (row ∷ sites) (counts ∷ site) h = omega (arith, shape_length 
 pub site_fits : (phase : PhaseAt) (site : List (List ℕ)) → HasShape phase.lattice phase.sites site → FitsSite (shape_of_phase phase) site
 site_fits phase site h = record { widths = shape_same phase.lattice phase.sites site h; counts = shape_up_to phase.lattice phase.sites site h }
 
-mixable : (phase : PhaseAt) → IsFine phase → IsMixable (mixing_of_phase phase)
-mixable phase fine =
+mixed : (phase : PhaseAt) → IsFine phase → IsMixed phase (mixing_of_phase phase)
+mixed phase fine =
     let n = lattice_size phase.lattice fine.keeps.lattice in
-    record { some = n.0; few = n.1; room = omega (arith, fine.keeps.energies) }
+    record {
+      mixable = record { some = n.0; few = n.1; room = omega (arith, fine.keeps.energies) };
+      t = refl;
+      lattice = refl;
+      ratios = refl;
+      ratio_each = fine.keeps.ratio_each;
+      sublattices = fine.keeps.sublattices_high;
+      sites = fine.sites;
+    }
+
+-- the lows, and how large they are
+
+lows_are : (phase : PhaseAt) (terms : List ParamTerm) (box : List (List Range)) → AllByRecursion (λ (t : ParamTerm). t.phase.now ≡ phase) terms →
+    sum_of (λ t. parameter_low t.phase.now.lattice t.parameter.now box) terms ≡ sum_of (λ p. parameter_low phase.lattice p box) (map (λ (t : ParamTerm). t.parameter.now) terms)
+lows_are phase [] box h = refl
+lows_are phase (t ∷ terms) box h = rw (h.0, lows_are phase terms box h.1) refl
+
+abbrev magnitude_sum : List ParamAt → ℕ
+magnitude_sum [] = 0
+magnitude_sum (p ∷ ps) = unsigned_abs p.micro + magnitude_sum ps
+
+micros_are : (terms : List ParamTerm) → micros terms ≡ magnitude_sum (map (λ (t : ParamTerm). t.parameter.now) terms)
+micros_are [] = refl
+micros_are (t ∷ terms) = omega (arith, micros_are terms)
+
+kept_magnitudes : (is_kind : Kind → Bool) (ps : List ParamAt) → magnitude_sum (filter (λ p. is_kind p.kind) ps) ≡ magnitudes is_kind ps
+kept_magnitudes is_kind [] = refl
+kept_magnitudes is_kind (p ∷ ps) = by (is_kind p.kind) refl (kept_magnitudes is_kind ps)
+  where
+    by : (b : Bool) → is_kind p.kind ≡ b → magnitude_sum (filter (λ p. is_kind p.kind) ps) ≡ magnitudes is_kind ps → magnitude_sum (filter (λ p. is_kind p.kind) (p ∷ ps)) ≡ magnitudes is_kind (p ∷ ps)
+    by true f rest = rw f (ap (λ (n : ℕ). unsigned_abs p.micro + n) rest)
+    by false f rest = rw f (omega (arith, rest))
+
+micros_small : (phase : PhaseAt) (terms : List ParamTerm) → IsFine phase → AreTerms phase terms → micros terms ≤ MOST_ENERGY
+micros_small phase terms fine h = omega (arith, micros_are terms, ap magnitude_sum h.all, kept_magnitudes is_energy phase.parameters, fine.keeps.energies)
+
+pub micros-more : (terms : List ParamTerm) (k : ℕ) (t : ParamTerm) → slice_get terms k ≡ Some t → micros (take (suc k) terms) ≡ micros (take k terms) + unsigned_abs t.parameter.now.micro
+micros-more [] k t e = absurd cc
+micros-more (s ∷ terms) zero t e = let same : s ≡ t = cc in rw same (omega arith)
+micros-more (s ∷ terms) (suc k) t e = omega (arith, micros-more terms k t e)
+
+pub micros-le : (terms : List ParamTerm) (k : ℕ) → micros (take k terms) ≤ micros terms
+micros-le [] zero = omega arith
+micros-le [] (suc k) = omega arith
+micros-le (t ∷ terms) zero = omega arith
+micros-le (t ∷ terms) (suc k) = omega (arith, micros-le terms k)
+
+-- the sum of lows up to a term
+pub record IsLowUpTo (f : ParamTerm → ℤ) (terms : List ParamTerm) (k : ℕ) (total : ℤ) : Type 0 where
+  pub sum : total ≡ sum_of f (take k terms)
+  pub size : unsigned_abs total ≤ micros (take k terms)
+
+pub low-more : (f : ParamTerm → ℤ) (terms : List ParamTerm) (k : ℕ) (total more x : ℤ) (t : ParamTerm) → IsLowUpTo f terms k total → slice_get terms k ≡ Some t → x ≡ f t → unsigned_abs x ≤ unsigned_abs t.parameter.now.micro → more ≡ total +ℤ x → IsLowUpTo f terms (k + 1) more
+low-more f terms k total more x t h e is small m = record {
+  sum = rw (add-one, m, is, h.sum) (sym (sum_of-more f terms k t e));
+  size = rw add-one (omega (arith, ap unsigned_abs m, plus_small total x (micros (take k terms)) (unsigned_abs t.parameter.now.micro) h.size small, micros-more terms k t e));
+}
+
+pub low_fits : (f : ParamTerm → ℤ) (terms : List ParamTerm) (k : ℕ) (total x : ℤ) (t : ParamTerm) → IsLowUpTo f terms k total → slice_get terms k ≡ Some t → unsigned_abs x ≤ unsigned_abs t.parameter.now.micro → micros terms ≤ MOST_ENERGY → FitsSigned w128 (total +ℤ x)
+low_fits f terms k total x t h e small room =
+    omega (arith, ints, plus_small total x (micros (take k terms)) (unsigned_abs t.parameter.now.micro) h.size small, micros-more terms k t e, micros-le terms (suc k), room)
 
 whole : (phase : PhaseAt) (terms : List ParamTerm) (site : List (List ℕ)) → phase.magnetic ≡ None → AreTerms phase terms →
     sum_of (λ t. parameter_value t.phase.now.lattice t.parameter.now site) terms +ℤ mixing_over phase.t phase.lattice phase.ratios site ≡ energy phase site
@@ -120,8 +184,14 @@ whole phase terms site none h =
 pub is_sum : (phase : PhaseAt) (terms : List ParamTerm) (mix : Mixing) → IsFine phase → phase.magnetic ≡ None → AreTerms phase terms → mix ≡ mixing_of_phase phase → IsSum phase terms mix
 is_sum phase terms mix fine none h m = rw m (record {
   fits = λ site shape k t e. rw (all-at (λ (t : ParamTerm). t.phase.now ≡ phase) terms k t h.each e) (site_fits phase site shape);
-  mixable = mixable phase fine;
+  mixed = mixed phase fine;
   each = λ site shape. omega (arith, shape_length phase.lattice phase.sites site shape, fine.keeps.ratio_each);
   within = λ site shape. shape_adds phase.lattice phase.sites site shape;
   energy_is = λ site shape. whole phase terms site none h;
+  energy_small = λ site shape. energy_size phase site fine none shape;
+  fits_box = λ box fits k t e. rw (all-at (λ (t : ParamTerm). t.phase.now ≡ phase) terms k t h.each e) fits;
+  micros_small = micros_small phase terms fine h;
+  lows_are = λ box. lows_are phase terms box h.each ∙ ap (sum_of (λ p. parameter_low phase.lattice p box)) h.all;
+  below = λ potentials box multipliers site fits member. bound_below phase terms potentials box multipliers site fine.keeps.ratio_each none h fits member;
+  exactly = λ potentials box multipliers site fits member single. bound_same phase terms potentials box multipliers site fine.keeps.ratio_each none h fits member single;
 })

@@ -1,2 +1,9 @@
 pub mod Sublattices
 pub mod Adding
+pub mod Least
+pub mod Rows
+pub mod Slopes
+pub mod Choice
+pub mod Secants
+pub mod Walking
+pub mod Bounding

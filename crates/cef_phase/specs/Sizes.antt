@@ -1,6 +1,6 @@
 -- How large energies are: lemmas for proofs.
-use Rattle.std.proofs.Common.{◌≡◌, ℕ, zero, suc, ◌+◌, ◌-◌, ◌*◌, ◌/◌, ◌^◌, ◌<◌, ◌≤◌, List, [], ◌∷◌, Option, Some, None, Bool, true, false, length, map, filter, slice_index, refl, arith, ap, sym, ◌∙◌, subst}
-use Rattle.std.specs.Prelude.{ℤ, pos, neg_ℤ, ◌+ℤ◌, ◌-ℤ◌, ◌*ℤ◌, unsigned_abs, cond, sum, ◌==◌, ◌||◌}
+use Rattle.std.proofs.Common.{◌≡◌, ℕ, zero, suc, ◌+◌, ◌-◌, ◌*◌, ◌/◌, ◌^◌, ◌≤◌, List, [], ◌∷◌, Option, None, Bool, true, false, length, map, filter, slice_index, refl, arith, ap, ◌∙◌}
+use Rattle.std.specs.Prelude.{ℤ, pos, neg_ℤ, ◌+ℤ◌, ◌-ℤ◌, ◌*ℤ◌, unsigned_abs, sum, ◌==◌, ◌||◌}
 use Rattle.std.specs.Int.{int_div_euclid}
 use Rattle.std.specs.List.{AllByRecursion, list_any}
 use Rattle.std.proofs.lemmas.Bool.{eqb-true}
@@ -16,13 +16,12 @@ use Rattle.cef_kind.specs.declared.kind.Kind.{Kind}
 use Rattle.cef_core.specs.declared.lattice.TheConstants.{LATTICES}
 use Rattle.cef_core.specs.declared.phase.ParamAt.{ParamAt}
 use Rattle.cef_core.specs.declared.phase.PhaseAt.{PhaseAt}
-use Rattle.cef_core.specs.declared.phase.MagneticAt.{MagneticAt}
 use Rattle.cef_core.specs.Constitutions.{HasShape}
 use Rattle.cef_core.specs.Energies.{is_energy, sum_of_kind, magnetic_energy, energy}
 use Rattle.cef_core.specs.Lattices.{is_lattice}
 use Rattle.cef_core.specs.Mixing.{mixing_at, mixing_of_counts, mixing_over}
-use Rattle.cef_core.specs.Parameters.{picked, product_of, product_over, power, interacting, factor_of, factor_divisor, parameter_value}
-use Rattle.cef_core.specs.Phases.{IsFine, IsPhase, magnitudes, magnetic_size, sigma}
+use Rattle.cef_core.specs.Parameters.{picked, product_of, product_over, interacting, factor_of, factor_divisor, parameter_value}
+use Rattle.cef_core.specs.Phases.{IsFine, magnitudes, magnetic_size, sigma}
 use Rattle.cef_term.proofs.Picking.{interacting_all}
 use Rattle.cef_term.proofs.Sizes.{power_size}
 use Rattle.cef_term.proofs.Values.{floor_size}

@@ -1,11 +1,15 @@
-//! Models of phases: the energy of their constitutions.
+//! Models of phases: the energy of their constitutions, the bounds of boxes, and the multipliers that are chosen for them.
 #![tactic(auto)]
 
+mod choose;
 mod law;
 mod mixing;
 mod model;
+mod part;
+mod slope;
 mod sum_phase;
 mod terms;
+mod walk;
 
 pub use law::energy_is_bounded;
 pub use model::PhaseModel;

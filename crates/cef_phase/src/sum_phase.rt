@@ -5,9 +5,12 @@ ghost use Rattle.std.proofs.Props.{props};
 
 use crate::mixing::mixing_from;
 use crate::model::PhaseModel;
-use crate::terms::{sum_of_terms, terms_of};
+use crate::terms::{sum_of_lows, sum_of_terms, terms_of};
+use crate::walk::{choose_from, parts_to};
+use cal_limits::MOST_SITES;
 use cal_log::Logs;
-use cal_whole::plus;
+use cal_whole::{plus, times};
+use cef_box::BoxRange;
 use cef_core::{PhaseAt, Site};
 use cef_mix::Mix;
 use cef_term::ParamTerm;
@@ -49,4 +52,36 @@ impl<'a> PhaseModel for SumPhase<'a> {
         let mixing = mixing_from(&self.mix, site, 0);
         plus(parameters, mixing)
     }
+
+    fn bound(&self, range: &BoxRange, potentials: &[i128], multipliers: &[i128]) -> i128 {
+        let lows = sum_of_lows(self.terms.as_slice(), range);
+        let mut slopes = [0; MOST_SITES];
+        let parts = parts_to(
+            &self.mix,
+            self.phase,
+            range,
+            potentials,
+            multipliers,
+            self.phase.sublattices(),
+            slopes.as_mut_slice(),
+        );
+        plus(times(65536, lows), parts)
+    }
+
+    fn choose(&self, range: &BoxRange, potentials: &[i128], out: &mut [i128]) {
+        let mut slopes = [0; MOST_SITES];
+        choose_from(
+            &self.mix,
+            self.phase,
+            range,
+            potentials,
+            0,
+            slopes.as_mut_slice(),
+            out,
+        );
+    }
+
+    ghost below = { λ m potentials box multipliers site fits member. m.valid.below potentials box multipliers site fits member };
+
+    ghost exactly = { λ m potentials box multipliers site fits member single. m.valid.exactly potentials box multipliers site fits member single };
 }

@@ -5,12 +5,14 @@ ghost use Rattle.cal_math.specs.Sums.{sum_of};
 ghost use Rattle.cef_core.specs.Energies.{is_energy};
 ghost use Rattle.cef_core.specs.Parameters.{parameter_value};
 ghost use Rattle.cef_core.specs.Phases.{IsFine};
-ghost use Rattle.cef_box.specs.Terms.{FitsSite, shape_of_phase};
+ghost use Rattle.cef_box.specs.Terms.{FitsBox, FitsSite, shape_of_phase};
+ghost use Rattle.cal_limits.specs.declared.TheConstants.{MOST_ENERGY};
 ghost use Rattle.cef_term.specs.declared.param_term.ParamTerm.{ParamTerm as Parameter};
-ghost use Rattle.cef_phase.specs.Sums.{AreTerms};
+ghost use Rattle.cef_term.specs.Bounds.{parameter_low};
+ghost use Rattle.cef_phase.specs.Sums.{AreTerms, micros};
 
 use cal_whole::plus;
-use cef_box::Term;
+use cef_box::{BoxRange, Term};
 use cef_core::{Kind, PhaseAt, Site};
 use cef_term::ParamTerm;
 use std::alloc::{AllocError, Global};
@@ -48,6 +50,20 @@ pub fn sum_of_terms(terms: &[ParamTerm<'_>], site: &Site) -> i128
     let mut total = 0;
     'each: for term in terms {
         total = plus(total, term.value(site));
+    }
+    total
+}
+
+/// The sum of the lows of a phase's terms over a box.
+pub fn sum_of_lows(terms: &[ParamTerm<'_>], range: &BoxRange) -> i128
+    requires fits { (k : ℕ) (t : Parameter) → slice_get terms.now k ≡ Some t → FitsBox (shape_of_phase t.phase.now) range.now }
+    requires small { micros terms.now ≤ MOST_ENERGY }
+    ensures exact { result ≡ sum_of (λ t. parameter_low t.phase.now.lattice t.parameter.now range.now) terms.now }
+    ensures size { unsigned_abs result ≤ MOST_ENERGY }
+{
+    let mut total = 0;
+    'each: for term in terms {
+        total = plus(total, term.low(range));
     }
     total
 }

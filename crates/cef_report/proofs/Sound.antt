@@ -6,7 +6,8 @@ use Rattle.cal_math.specs.Whole.{*ℤ-+ℤ, *ℤ_left, *ℤ-≤, pos-*ℤ-≤, h
 use Rattle.cal_math.specs.Vectors.{at}
 use Rattle.cal_math.proofs.Vectors.{dot-zero, dot-plus, dot-scale, dot_same}
 use Rattle.cef_report.specs.Assemblages.{content_of, energy_of, total, total_energy, IsEntry, IsAssemblage, IsWithin}
-use Rattle.cef_report.specs.Certificates.{worth, IsAbove, MeetsGap}
+use Rattle.cef_report.specs.Certificates.{IsAbove, MeetsGap}
+use Rattle.cef_core.specs.Worth.{worth}
 use Rattle.cef_report.specs.declared.entry.Entry.{Entry}
 use Rattle.cef_core.specs.declared.system.System.{System}
 

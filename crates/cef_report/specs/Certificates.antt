@@ -2,17 +2,14 @@
 use Rattle.std.specs.Prelude.{◌≡◌, ℕ, ◌<◌, List, Some, length, slice_get, ℤ, pos, ◌+ℤ◌, ◌-ℤ◌, ◌*ℤ◌, ◌≤ℤ◌}
 use Rattle.std.specs.Int.{int_div_euclid}
 use Rattle.cal_math.specs.Sums.{sum_of}
-use Rattle.cal_math.specs.Vectors.{at, dot}
+use Rattle.cal_math.specs.Vectors.{at}
 use Rattle.cef_core.specs.declared.phase.PhaseAt.{PhaseAt}
 use Rattle.cef_core.specs.declared.system.System.{System}
 use Rattle.cef_report.specs.declared.report.Report.{Report}
 use Rattle.cef_core.specs.Constitutions.{IsConstitution, content}
 use Rattle.cef_core.specs.Energies.{energy}
+use Rattle.cef_core.specs.Worth.{worth}
 use Rattle.cef_report.specs.Assemblages.{IsWithin}
-
--- what amounts of the components are worth at the potentials: the sum of potential times amount
-abbrev pub worth : List ℤ → (ℕ → ℤ) → ℤ
-worth potentials amounts = dot (length potentials) (at potentials) amounts
 
 -- every constitution of every phase lies on or above the plane: M*b <= 2^16*G
 abbrev pub IsAbove : System → List ℤ → Type 0

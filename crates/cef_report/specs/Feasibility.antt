@@ -7,7 +7,7 @@ use Rattle.cef_core.specs.declared.system.System.{System}
 use Rattle.cef_core.specs.Constitutions.{IsConstitution, content}
 use Rattle.cef_report.specs.declared.entry.Entry.{Entry}
 use Rattle.cef_report.specs.Assemblages.{IsRival}
-use Rattle.cef_report.specs.Certificates.{worth}
+use Rattle.cef_core.specs.Worth.{worth}
 use Rattle.cef_report.specs.Spelled.{IsAsked}
 
 -- asked totals: a number within the limits for each element, and one of them above 0

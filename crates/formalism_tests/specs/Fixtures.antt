@@ -49,3 +49,20 @@ cementite = record {
   parameters = cementite_parameters;
   magnetic = None;
 }
+
+-- two elements on one sublattice, with ideal mixing alone
+unfoldable pub ideal_solution : PhaseAt
+ideal_solution = record {
+  name = 83 ∷ [];
+  t = 100000;
+  lattice = 10;
+  scale = 1;
+  ratios = 1 ∷ [];
+  sites = (Some 0 ∷ Some 1 ∷ []) ∷ [];
+  parameters = [];
+  magnetic = None;
+}
+
+-- a potential of -4*10^13 of each of its elements
+abbrev pub equal_potentials : List ℤ
+equal_potentials = negsuc 39999999999999 ∷ negsuc 39999999999999 ∷ []

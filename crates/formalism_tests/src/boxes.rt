@@ -56,7 +56,7 @@ const BOXES: [Listed; 4] = [
 ];
 
 /// Whether no low is above its high, and no high above 10.
-fn are_ranges(low: &[u16], high: &[u16]) -> bool
+pub fn are_ranges(low: &[u16], high: &[u16]) -> bool
     ensures { OnTrue result (AllByRecursion (IsRange 10) (ranges low.now high.now)) }
 {
     match low.split_first() {

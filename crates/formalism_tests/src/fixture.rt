@@ -1,9 +1,10 @@
 //! The phases of the tests.
 
-ghost use Rattle.std.specs.Prelude.{◌≡◌, ◌∷◌, [], IfOk, None, pos, true, false};
+ghost use Rattle.std.specs.Prelude.{◌≡◌, ◌∷◌, [], ◌^◌, IfOk, None, pos, true, false};
 ghost use Rattle.cef_core.specs.Phases.{IsFine};
 ghost use Rattle.cef_core.specs.Shapes.{shape};
-ghost use Rattle.formalism_tests.specs.Fixtures.{energy_parameter, solution_parameters, solution, cementite_parameters, cementite};
+ghost use Rattle.formalism_tests.specs.Fixtures.{energy_parameter, solution_parameters, solution, ideal_solution, equal_potentials, cementite_parameters, cementite};
+ghost use Rattle.cef_phase.specs.Bounds.{IsPlane};
 
 use cal_list::{Items, one};
 use cef_core::{Kind, Name, ParamAt, PhaseAt};
@@ -84,6 +85,26 @@ fn solution(alloc: Global, lattice: u32) -> Result<PhaseAt, AllocError>
     })
 }
 
+/// Two elements on one sublattice, with ideal mixing alone.
+#[tactic(auto, unfolding(crate::specs::Fixtures::ideal_solution))]
+fn ideal_solution(alloc: Global) -> Result<PhaseAt, AllocError>
+    ensures { IfOk result (λ phase. phase ≡ ideal_solution) }
+{
+    let name = Name::from_bytes(alloc, b"S")?;
+    let ratios = one(alloc, 1)?;
+    let sites = one(alloc, two(alloc, Some(0), Some(1))?)?;
+    Ok(PhaseAt {
+        name,
+        t: 100_000,
+        lattice: 10,
+        scale: 1,
+        ratios,
+        sites,
+        parameters: Items::new(alloc),
+        magnetic: None,
+    })
+}
+
 /// A parameter of two sublattices with one constituent on the second.
 fn compound(alloc: Global, micro: i128, list: Items<u16>) -> Result<ParamAt, AllocError>
     ensures { IfOk result (λ p. p ≡ energy_parameter micro (list ∷ (0 ∷ []) ∷ []) 0 false) }
@@ -146,5 +167,17 @@ pub fn plain_cementite(alloc: Global) -> Result<PhaseAt, AllocError>
     ensures plain { IfOk result (λ phase. phase.magnetic ≡ None) }
 {
     let phase = cementite(alloc)?;
+    Ok(phase)
+}
+
+/// The solution of two elements, to which potentials of -4*10^13 are a plane.
+pub fn ideal_solution_of_10(alloc: Global) -> Result<PhaseAt, AllocError>
+    ensures fine { IfOk result (λ phase. IsFine phase) }
+    ensures plain { IfOk result (λ phase. phase.magnetic ≡ None) }
+    ensures lattice { IfOk result (λ phase. phase.lattice ≡ 10) }
+    ensures sites { IfOk result (λ phase. shape phase.sites ≡ 2 ∷ []) }
+    ensures plane { IfOk result (λ phase. IsPlane (2 ^ 116) phase equal_potentials) }
+{
+    let phase = ideal_solution(alloc)?;
     Ok(phase)
 }

@@ -2,7 +2,11 @@
 #![tactic(auto)]
 
 #[cfg(test)]
+mod bounds;
+#[cfg(test)]
 mod boxes;
+#[cfg(test)]
+mod cuts;
 #[cfg(test)]
 mod energies;
 #[cfg(test)]

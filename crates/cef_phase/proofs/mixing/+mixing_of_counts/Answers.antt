@@ -1,10 +1,10 @@
-use Rattle.std.proofs.Common.{rules, ◌≡◌, ◌≤◌, ◌+◌, ◌∷◌, List, ℕ, SFits, arith, refl, ap, sym, ◌∙◌, subst}
-use Rattle.std.specs.Prelude.{unsigned_abs, ◌+ℤ◌, sum, slice_index}
+use Rattle.std.proofs.Common.{rules, ◌≡◌, ◌≤◌, ◌∷◌, SFits, refl}
+use Rattle.std.specs.Prelude.{unsigned_abs, ◌+ℤ◌, slice_index}
 use Rattle.std.specs.Int.{w128}
-use Rattle.std.proofs.lemmas.Int.{ints, to_z-of_z}
+use Rattle.std.proofs.lemmas.Int.{to_z-of_z}
 use Rattle.cal_limits.specs.declared.TheConstants.{MOST_ENERGY}
-use Rattle.cef_core.specs.Mixing.{mixing_at, mixing_of_counts}
-use Rattle.cef_phase.proofs.Sublattices.{counts_size, first_within, rest_within, count_size, sum_fits}
+use Rattle.cef_core.specs.Mixing.{mixing_of_counts}
+use Rattle.cef_phase.proofs.Sublattices.{counts_size, first_within, count_size, sum_fits}
 use Rattle.cef_phase.proofs.mixing.+mixing_of_counts.Goals as goal
 
 pub plus-requires : goal.plus-requires

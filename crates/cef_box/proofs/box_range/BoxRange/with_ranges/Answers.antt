@@ -1,8 +1,8 @@
-use Rattle.std.proofs.Common.{◌≡◌, ◌+◌, ◌++◌, ◌∷◌, [], length, List, arith, ap, sym, ◌∙◌}
+use Rattle.std.proofs.Common.{◌≡◌, ◌+◌, ◌++◌, ◌∷◌, [], length, List, arith, ap, ◌∙◌}
 use Rattle.std.proofs.lemmas.List.{length-append}
 use Rattle.cef_core.specs.Shapes.{places}
 use Rattle.cef_box.specs.declared.range.Range.{Range}
-use Rattle.cef_box.specs.Flat.{ranges, rows_of}
+use Rattle.cef_box.specs.Flat.{ranges}
 use Rattle.cef_box.proofs.Shapes.{places-rows_of}
 use Rattle.cef_box.proofs.Grown.{flat-append, rows_of-append}
 use Rattle.cef_box.proofs.box_range.BoxRange.with_ranges.Goals as goal
