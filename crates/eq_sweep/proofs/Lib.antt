@@ -1,0 +1,12 @@
+pub mod Ready
+pub mod Chosen
+pub mod Listing
+pub mod Members
+pub mod Walks
+pub mod Stacks
+pub mod Phases
+pub mod Found
+pub mod Middles
+pub mod Worths
+pub mod Spares
+pub mod Blanks
