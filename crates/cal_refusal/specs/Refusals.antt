@@ -67,3 +67,10 @@ spaced_all (n ∷ numbers) = spaced n ++ spaced_all numbers
 -- the numbers, one for each element, show that no constitutions give the asked totals
 abbrev pub infeasible_line : List ℤ → Line
 infeasible_line numbers = codes "refused system infeasible" ++ spaced_all numbers ++ LINE_FEED ∷ []
+
+-- ---- why an equilibrium is left open
+
+-- the phase at which a sweep under these potentials spent its budget of splits
+abbrev pub gap_line : List ℕ → ℕ → List ℤ → Line
+gap_line phase splits potentials =
+    codes "refused gap phase " ++ phase ++ codes " splits " ++ decimal splits ++ codes " potentials" ++ spaced_all potentials ++ LINE_FEED ∷ []

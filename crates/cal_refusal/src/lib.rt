@@ -6,5 +6,5 @@ mod numbers;
 mod system;
 
 pub use lines::{LONG, READ, UNBUILT, USAGE, database};
-pub use numbers::infeasible;
+pub use numbers::{gap, infeasible};
 pub use system::system_refusal;

@@ -1,8 +1,10 @@
 -- What `equilibrium` replies over the bytes of its database, and why: one constructor for each cause.
-use Rattle.std.specs.Prelude.{◌≡◌, ◌≢◌, ℕ, ◌*◌, List, ◌∷◌, map, Err, Ok, ℤ, pos, if◌then◌else◌}
+use Rattle.std.specs.Prelude.{◌≡◌, ◌≢◌, ℕ, ◌*◌, List, [], ◌∷◌, ◌++◌, map, slice_index_or, Err, Ok, ℤ, pos, if◌then◌else◌}
+use Rattle.std.specs.List.{flat_map}
 use Rattle.cal_words.specs.declared.rules.Rule.{Rule}
 use Rattle.cal_base.specs.declared.status.Status.{Status}
-use Rattle.cal_base.specs.declared.status.Status.TheVariants.{Done, BadDatabase, BadSystem}
+use Rattle.cal_base.specs.declared.status.Status.TheVariants.{Done, BadDatabase, BadSystem, GapNotClosed}
+use Rattle.cal_scan.specs.Lines.{line}
 use Rattle.cal_scan.specs.Names.{same_name}
 use Rattle.cal_job.specs.declared.request.Request.{Request}
 use Rattle.cal_job.specs.Saying.{Word}
@@ -13,15 +15,18 @@ use Rattle.cef_report.specs.Holding.{Holds}
 use Rattle.cef_report.specs.Certificates.{IsCertified}
 use Rattle.cef_report.specs.Feasibility.{IsFeasible, IsProofOfNone}
 use Rattle.cef_report.specs.Spelled.{IsSpelled}
-use Rattle.cef_report.specs.Texts.{text}
+use Rattle.cef_report.specs.Texts.{text, entry_words}
 use Rattle.tdb_read.specs.Database.{Database}
 use Rattle.tdb_read.specs.Folding.{IsDatabase, IsFault}
 use Rattle.cal_select.specs.declared.fault.SystemFault.{SystemFault}
 use Rattle.cal_select.specs.declared.fault.SystemFault.TheVariants as faults
 use Rattle.cal_select.specs.Causes.{Answers}
-use Rattle.eq_solve.specs.Answers.{IsNear}
-use Rattle.eq_solve.specs.Single.{IsBuilt, only_leaf}
-use Rattle.cal_refusal.specs.Refusals.{database_line, system_line, unbuilt_line, infeasible_line}
+use Rattle.eq_sweep.specs.declared.swept.Swept.TheVariants.{Closed}
+use Rattle.eq_sweep.specs.Sweeps.{IsSweep}
+use Rattle.eq_solve.specs.declared.fault.Open.{Open}
+use Rattle.eq_solve.specs.Answers.{IsNear, IsOpen}
+use Rattle.eq_solve.specs.Modelled.{IsBuilt}
+use Rattle.cal_refusal.specs.Refusals.{database_line, system_line, unbuilt_line, infeasible_line, gap_line}
 
 -- ---- what is asked
 
@@ -52,8 +57,8 @@ pub record IsRefused (db : Database) (job : Job) (fault : SystemFault) : Type 0 
 
 -- ---- the equilibrium
 
--- The text is that of one report, which holds for the system and what is asked of it, with its certificate for the asked gap. Each tree
--- is one leaf with the multiplier 0 for each sublattice, and the report is within the limits of texts.
+-- The text is that of one report, which holds for the system and what is asked of it, with its certificate for the asked gap. Its trees
+-- are those of the sweep under its potentials with the asked budget, and the report is within the limits of texts.
 pub record IsAnswer (system : System) (request : Request) (printed : List ℕ) : Type 0 where
   pub report : Report
   pub printed_is : printed ≡ text report
@@ -61,13 +66,30 @@ pub record IsAnswer (system : System) (request : Request) (printed : List ℕ) :
   pub certified : IsCertified system request.gap report
   pub near : IsNear system report
   pub feasible : IsFeasible system (asked_of request system)
-  pub trees : report.trees ≡ map only_leaf system.phases
+  pub trees : IsSweep system.phases report.potentials request.budget (Closed report.trees)
   pub spelled : IsSpelled report
 
 -- The numbers show that the asked totals are not feasible.
 pub record IsInfeasible (system : System) (request : Request) (numbers : List ℤ) : Type 0 where
   pub shown : IsProofOfNone system (asked_of request system) numbers
   pub infeasible : ¬ IsFeasible system (asked_of request system)
+
+-- the names of a system's phases
+abbrev pub phase_names : System → List Word
+phase_names system = map (λ phase. phase.name) system.phases
+
+-- The lines of the kept entries, and that of the phase at which the sweep under the kept potentials spent the asked budget.
+abbrev pub open_text : System → Request → Open → List ℕ
+open_text system request left =
+    flat_map (λ entry. line (entry_words (phase_names system) entry)) left.entries
+    ++ gap_line (slice_index_or (phase_names system) left.phase []) request.budget left.potentials
+
+-- The text is that of what is kept of an equilibrium that is left open, where the asked totals are feasible.
+pub record IsLeftOpen (system : System) (request : Request) (printed : List ℕ) : Type 0 where
+  pub left : Open
+  pub open_is : IsOpen system (IsSweep system.phases) (asked_of request system) request.gap request.budget left
+  pub feasible : IsFeasible system (asked_of request system)
+  pub printed_is : printed ≡ open_text system request left
 
 -- The reply over a system.
 pub data FromSystem (system : System) (request : Request) (status : Status) (printed : List ℕ) : Type 0 where
@@ -76,6 +98,8 @@ pub data FromSystem (system : System) (request : Request) (status : Status) (pri
   -- no constitutions give the asked totals
   infeasible : (numbers : List ℤ) → IsBuilt system → IsInfeasible system request numbers → status ≡ BadSystem → printed ≡ infeasible_line numbers →
       FromSystem system request status printed
+  -- a sweep spent the budget
+  left_open : IsBuilt system → IsLeftOpen system request printed → status ≡ GapNotClosed → FromSystem system request status printed
   -- the equilibrium
   answered : IsBuilt system → IsAnswer system request printed → status ≡ Done → FromSystem system request status printed
 

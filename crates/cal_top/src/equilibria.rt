@@ -5,7 +5,7 @@ ghost use Rattle.cal_limits.specs.declared.TheConstants.{MOST_DATABASE_BYTES};
 ghost use Rattle.cal_job.specs.Requests.{IsRequest};
 ghost use Rattle.cef_core.specs.Systems.{IsSystem};
 ghost use Rattle.cef_report.specs.Feasibility.{AreAsked};
-ghost use Rattle.eq_solve.specs.Single.{IsBuilt};
+ghost use Rattle.eq_solve.specs.Modelled.{IsBuilt};
 ghost use Rattle.temp_fun.specs.Functions.{AreFunctions};
 ghost use Rattle.cal_refusal.specs.Refusals.{system_line};
 ghost use Rattle.cal_top.specs.Equilibria.{asked_of, FromSystem, FromDatabase, FromBytes};
@@ -13,6 +13,7 @@ ghost use Rattle.cal_top.specs.Equilibria.{asked_of, FromSystem, FromDatabase, F
 use crate::asked::totals_asked;
 use crate::built::is_built;
 use crate::models::models_of;
+use crate::open::open_text;
 use crate::reply::Reply;
 use cal_base::Status;
 use cal_job::Request;
@@ -66,7 +67,13 @@ fn by_models<P: PhaseModel>(
                 text,
             })
         }
-        Err(SolveFault::GapNotClosed(_)) => unreachable!(),
+        Err(SolveFault::GapNotClosed(left)) => {
+            let text = open_text(alloc, request, system, &left)?;
+            Ok(Reply {
+                status: Status::GapNotClosed,
+                text,
+            })
+        }
         Err(SolveFault::Memory) => Err(AllocError),
     }
 }

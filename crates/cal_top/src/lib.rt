@@ -5,6 +5,7 @@ mod asked;
 mod built;
 mod equilibria;
 mod models;
+mod open;
 mod reply;
 mod running;
 mod words;

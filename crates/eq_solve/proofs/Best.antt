@@ -12,7 +12,7 @@ use Rattle.cal_math.specs.Whole.{*ℤ-+ℤ, *ℤ_left, *ℤ_comm, *ℤ-≤}
 use Rattle.cal_math.specs.Vectors.{at, dot}
 use Rattle.cef_core.specs.declared.phase.PhaseAt.{PhaseAt}
 use Rattle.cef_core.specs.Constitutions.{HasShape, weight_of, content_of_counts, content_over, content}
-use Rattle.cef_report.specs.Certificates.{worth}
+use Rattle.cef_core.specs.Worth.{worth}
 use Rattle.eq_solve.proofs.Worths.{worth-nil, worth-cons, worth-zero, worth-add, worth-scale, worth_same}
 use Rattle.eq_solve.specs.Greatest.{site_value, IsBest, AreBest, alone}
 

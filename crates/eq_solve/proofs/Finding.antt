@@ -19,10 +19,11 @@ use Rattle.cef_report.specs.declared.entry.Entry.{Entry}
 use Rattle.cef_core.specs.declared.system.System.{System}
 use Rattle.cef_core.specs.declared.tree.Tree.{Tree}
 use Rattle.cef_report.specs.Assemblages.{content_of, total, total_energy, IsEntry, IsAssemblage}
-use Rattle.cef_report.specs.Certificates.{worth, IsAbove, MeetsGap}
+use Rattle.cef_report.specs.Certificates.{IsAbove, MeetsGap}
+use Rattle.cef_core.specs.Worth.{worth}
 use Rattle.cef_report.proofs.Sound.{IsWithin-from_certificate}
-use Rattle.eq_solve.specs.declared.swept.Swept.{Swept}
-use Rattle.eq_solve.specs.declared.swept.Swept.TheVariants.{Closed, Out}
+use Rattle.eq_sweep.specs.declared.swept.Swept.{Swept}
+use Rattle.eq_sweep.specs.declared.swept.Swept.TheVariants.{Closed, Out}
 use Rattle.eq_solve.specs.declared.found.Found.{Found}
 use Rattle.eq_solve.specs.declared.fault.Open.{Open}
 use Rattle.eq_solve.specs.Points.{AreKnown, IsSized}
@@ -178,14 +179,15 @@ some_weight columns asked plan aim is = by_list plan.weights.items is.feasible.g
 pub open_from : (system : System) (swept : List ℤ → ℕ → Swept → Type 0) (known : List Entry) (columns : List Column) (asked potentials : List ℤ) (margin gap budget : ℕ) (plan : Plan) (amounts : List Weight) (left : Open) →
     AreKnown system known columns → AllPairs IsBefore known → AreRising amounts → length asked ≡ length system.elements → margin + 1 ≡ 65536 * gap / system.lattice → CanSweep system potentials → IsTarget asked → IsPlan columns asked plan →
     amounts ≡ map (floored plan.parts) plan.weights.items →
-    IsRounded system columns asked potentials margin amounts → swept potentials budget (Out left.phase) → budget < system.lists →
+    IsRounded system columns asked potentials margin amounts → swept potentials budget (Out left.phase) → left.phase < length system.phases → budget < system.lists →
     left.entries ≡ map (entry_at known) amounts → left.potentials ≡ potentials → IsOpen system swept asked gap budget left
-open_from system swept known columns asked potentials margin gap budget plan amounts left are order rising size s can aim is amounts_are rounds out few entries potentials_are =
+open_from system swept known columns asked potentials margin gap budget plan amounts left are order rising size s can aim is amounts_are rounds out within few entries potentials_are =
     let named : AllByRecursion (λ w. w.0 < length known) amounts = places (length columns) (length known) amounts (known-length system known columns are) rounds.close.amounts_are.named in
     let total_at : (c : ℕ) → c < length system.elements → total system left.entries c ≡ given_amount columns amounts c = λ c lt. rw entries (total_is system known columns amounts c are named lt) in
     record {
       budget_low = few;
       can_sweep = rw potentials_are can;
+      phase_in = within;
       out = rw potentials_are out;
       rising = rw entries (entries_rising known amounts order rising named);
       present = rw entries (rw amounts_are (omega (arith, length-map (map (floored plan.parts) plan.weights.items) (entry_at known), length-map plan.weights.items (floored plan.parts), some_weight columns asked plan aim is)));

@@ -12,12 +12,12 @@ use Rattle.eq_solve.specs.Points.{IsConstitutionOf, IsColumnOf, IsKnownAs, IsNew
 use Rattle.std.specs.Prelude.{Option, Some, slice_get}
 use Rattle.std.specs.Bool.{OnTrue, OnFalse}
 use Rattle.std.proofs.lemmas.Option.{slice_get_read, slice_get_within}
-use Rattle.eq_solve.specs.Knowing.{IsKnowing, IsPlaceOf, IsStuck, IsWith, kept, added}
+use Rattle.eq_solve.specs.Knowing.{IsKnowing, IsPlaceOf, IsStuck, IsWith, LeavesNoMore, kept, added}
 use Rattle.eq_solve.proofs.Inserting.{all_pairs_insert}
 use Rattle.eq_solve.proofs.Ordering.{before_trans, before_or_same}
 use Rattle.eq_solve.proofs.Knowing.{known-insert, column_of}
 use Rattle.eq_solve.proofs.Listed.{listed}
-use Rattle.eq_solve.proofs.Listing.{unknown-insert}
+use Rattle.eq_solve.proofs.Listing.{unknown-insert, unknown-insert-le}
 
 any_entry : (xs : List Entry) (k : ℕ) (d e : Entry) → k < length xs → get_or xs k d ≡ get_or xs k e
 any_entry [] k d e lt = absurd (omega arith)
@@ -59,6 +59,11 @@ less_unknown system known more point is point_is new (kept place place_is stuck)
     absurd (new place d within (before_or_same system there point.entry has.is.is_constitution point_is.is_constitution (place_is.not_before d within) not))
 less_unknown system known more point is point_is new (added place other place_is first entries columns) =
     rw entries (unknown-insert (all_entries system) known.entries.items place point.entry (listed system point.entry point_is.is_constitution) new)
+
+pub no_more : (system : System) (known more : Known) (point : Point) → IsWith known point more → LeavesNoMore system known more
+no_more system known more point (kept place place_is stuck) = omega arith
+no_more system known more point (added place other place_is first entries columns) =
+    rw entries (unknown-insert-le (all_entries system) known.entries.items place point.entry)
 
 -- ---- what loops need
 

@@ -20,7 +20,7 @@ use Rattle.cef_report.specs.declared.entry.Entry.{Entry}
 use Rattle.cef_core.specs.declared.system.System.{System}
 use Rattle.cef_core.specs.Constitutions.{content}
 use Rattle.cef_report.specs.Assemblages.{content_of, energy_of}
-use Rattle.cef_report.specs.Certificates.{worth}
+use Rattle.cef_core.specs.Worth.{worth}
 use Rattle.eq_solve.specs.Points.{IsConstitutionOf, IsListOf, IsNew, IsKnownAs, AreKnown, IsSized}
 use Rattle.eq_solve.specs.Sweeps.{CanSweep, IsBelow}
 use Rattle.eq_solve.specs.Prices.{lowered, IsClear, IsNear}

@@ -7,7 +7,8 @@ pub mod Sizing
 pub mod Asking
 pub mod Rising
 pub mod Reported
-pub mod Lists
+pub mod Columns
+pub mod Swept
 pub mod Weighing
 pub mod Margins
 pub mod Worths

@@ -100,3 +100,7 @@ unknown_permuted (entry ∷ all) xs ys perm = rw (list_any-IsPermutation (λ (ot
 pub unknown-insert : (all known : List Entry) (place : ℕ) (e : Entry) → Any (λ other. AreSame other e) all → IsNew known e → unknown all (insert known place e) < unknown all known
 unknown-insert all known place e listed new =
     rw (← unknown_permuted all (e ∷ known) (insert known place e) (IsPermutation-insert known place e)) (unknown-falls all known e listed new)
+
+pub unknown-insert-le : (all known : List Entry) (place : ℕ) (e : Entry) → unknown all (insert known place e) ≤ unknown all known
+unknown-insert-le all known place e =
+    rw (← unknown_permuted all (e ∷ known) (insert known place e) (IsPermutation-insert known place e)) (unknown-le all known e)

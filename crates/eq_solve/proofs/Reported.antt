@@ -24,13 +24,12 @@ use Rattle.cef_report.specs.Certificates.{IsCertified}
 use Rattle.cef_report.specs.Feasibility.{AreAsked}
 use Rattle.cef_report.specs.Holding.{Holds}
 use Rattle.cef_report.specs.Spelled.{IsNumber, IsAsked, AreCounts, IsSpelledSite, IsSpelledEntry, IsSpelledTree, leaf, IsSpelled}
-use Rattle.eq_solve.specs.declared.swept.Swept.{Swept}
+use Rattle.eq_sweep.specs.declared.swept.Swept.{Swept}
 use Rattle.eq_solve.specs.declared.found.Found.{Found}
 use Rattle.eq_solve.specs.Answers.{IsNear}
 use Rattle.eq_solve.specs.Finding.{IsFound}
 use Rattle.eq_solve.specs.Points.{IsConstitutionOf, IsSized}
 use Rattle.eq_solve.specs.Reporting.{Reports}
-use Rattle.eq_solve.specs.Single.{only_leaf}
 use Rattle.eq_solve.specs.Sweeps.{CanSweep}
 use Rattle.eq_solve.proofs.Knowing.{content-least}
 use Rattle.eq_solve.proofs.Sizing.{First, first_phase, all_at}
@@ -210,20 +209,9 @@ gap_high gap T g n some few gap_few low high small =
     let floor : unsigned_abs (int_div_euclid (pos g *ℤ T +ℤ (pos n -ℤ pos 1)) (pos n)) ≤ 10 ^ 12 * 2 ^ 53 + 1000 = abs-floor-le _ (pos n) (10 ^ 12 * 2 ^ 53 + 1000) (omega (arith, ints, some)) whole in
     omega (arith, ints, small, floor)
 
-zeros : (sites : List (List (Option ℕ))) → AllByRecursion IsNumber (map (λ row. pos 0) sites)
-zeros [] = tt
-zeros (row ∷ sites) = (omega (arith, ints), zeros sites)
-
-leaf_spelled : (phase : PhaseAt) → 1 ≤ length phase.sites → IsSpelledTree (only_leaf phase)
-leaf_spelled phase some = leaf (map (λ row. pos 0) phase.sites) [] (omega (arith, some, length-map phase.sites (λ (row : List (Option ℕ)). pos 0))) (zeros phase.sites)
-
-leaves_spelled : (system : System) (phases : List PhaseAt) → AllByRecursion (IsPhaseOf system) phases → AllByRecursion IsSpelledTree (map only_leaf phases)
-leaves_spelled system [] all = tt
-leaves_spelled system (phase ∷ phases) all = (leaf_spelled phase all.0.fine.keeps.sublattices_low, leaves_spelled system phases all.1)
-
 pub spelled_from : (system : System) (swept : List ℤ → ℕ → Swept → Type 0) (asked : List ℤ) (gap budget : ℕ) (found : Found) (report : Report) → IsSystem system → IsSized system → AreAsked system asked → gap ≤ 10 ^ 12 →
-    IsFound system swept asked gap budget found → found.trees ≡ map only_leaf system.phases → Reports system asked found report → IsSpelled report
-spelled_from system swept asked gap budget found report is sized are gap_few f trees r =
+    IsFound system swept asked gap budget found → length found.trees ≡ length system.phases → AllByRecursion IsSpelledTree found.trees → Reports system asked found report → IsSpelled report
+spelled_from system swept asked gap budget found report is sized are gap_few f trees_each trees r =
     let n : ℕ = length system.elements in
     let first = first_phase system is in
     let one : IsPhaseOf system first.phase = all_at (IsPhaseOf system) system.phases 0 first.phase is.phases first.is in
@@ -255,6 +243,6 @@ spelled_from system swept asked gap budget found report is sized are gap_few f t
       gap_low = rw r.gap f.gap_low;
       gap_high = rw r.gap (gap_high found.gap (sum_of (λ k. k) found.totals) gap system.lattice sized.lattice_low sized.lattice_high gap_few sums.0 (omega (arith, ints, sums.1, f.components, sized.few)) f.gap_small);
       potentials = rw (elements, r.potentials) (f.can_sweep.one_each, potentials_numbers system.widest found.potentials sized.wide_some f.can_sweep.small);
-      one_tree_each = ap length r.trees ∙ ap length trees ∙ length-map system.phases only_leaf ∙ sym phases;
-      trees = rw (r.trees, trees) (leaves_spelled system system.phases is.phases);
+      one_tree_each = ap length r.trees ∙ trees_each ∙ sym phases;
+      trees = rw r.trees trees;
     }

@@ -14,7 +14,7 @@ use Rattle.cef_report.specs.declared.entry.Entry.{Entry}
 use Rattle.cef_core.specs.declared.system.System.{System}
 use Rattle.cef_core.specs.Constitutions.{IsConstitution, content, content_over}
 use Rattle.cef_report.specs.Assemblages.{content_of}
-use Rattle.cef_report.specs.Certificates.{worth}
+use Rattle.cef_core.specs.Worth.{worth}
 use Rattle.eq_solve.specs.Points.{IsListOf, IsColumnOf, IsKnownAs, AreKnown, IsSized}
 use Rattle.eq_solve.specs.Sweeps.{CanSweep}
 use Rattle.eq_solve.specs.Greatest.{AreBest}

@@ -14,7 +14,7 @@ use Rattle.cef_core.specs.declared.system.System.{System}
 use Rattle.cef_core.specs.declared.phase.PhaseAt.{PhaseAt}
 use Rattle.cef_core.specs.Constitutions.{IsConstitution, content}
 use Rattle.cef_report.specs.Assemblages.{content_of, total, IsEntry, IsAssemblage}
-use Rattle.cef_report.specs.Certificates.{worth}
+use Rattle.cef_core.specs.Worth.{worth}
 use Rattle.eq_solve.proofs.Worths.{worth-dot, worth-zero, worth-add, worth-scale, worth_same}
 use Rattle.eq_solve.specs.Points.{IsColumnOf, IsNew, IsKnownAs, AreKnown, IsSized}
 use Rattle.eq_solve.specs.Sweeps.{CanSweep, IsBelow}

@@ -23,7 +23,7 @@ use Rattle.cef_phase.specs.Sizes.{energy_size}
 use Rattle.cef_report.specs.declared.entry.Entry.{Entry}
 use Rattle.cef_report.specs.Assemblages.{content_of, energy_of}
 use Rattle.eq_solve.specs.Points.{IsConstitutionOf, IsListOf, IsShaped, IsSized, site_count}
-use Rattle.eq_solve.specs.Single.{HasOneList, IsBuilt}
+use Rattle.eq_solve.specs.Modelled.{IsBuilt}
 
 one_of : (n : ℕ) (ls : List ℕ) → list_any (λ l. n == l) ls ≡ true → AllByRecursion (λ l. (10 ≤ l) × (l ≤ 1000)) ls → (10 ≤ n) × (n ≤ 1000)
 one_of n [] is all = absurd cc
@@ -50,7 +50,7 @@ greatest-le : (xs : List ℕ) (m : ℕ) → AllByRecursion (λ x. x ≤ m) xs �
 greatest-le [] m all = omega arith
 greatest-le (x ∷ xs) m all = omega (arith, all.0, greatest-le xs m all.1)
 
-le-greatest : {X : Type 0} (f : X → ℕ) (xs : List X) (k : ℕ) (x : X) → slice_get xs k ≡ Some x → f x ≤ greatest (map f xs)
+pub le-greatest : {X : Type 0} (f : X → ℕ) (xs : List X) (k : ℕ) (x : X) → slice_get xs k ≡ Some x → f x ≤ greatest (map f xs)
 le-greatest f [] k x is = absurd cc
 le-greatest f (y ∷ xs) zero x is = let e : y ≡ x = cc in subst (λ z. f z ≤ max (f y) (greatest (map f xs))) e (omega arith)
 le-greatest f (y ∷ xs) (suc k) x is = omega (arith, le-greatest f xs k x is)
@@ -178,6 +178,6 @@ sized system is built =
     cheap : (entry : Entry) → IsConstitutionOf system entry → unsigned_abs (energy_of system entry) ≤ dearest_of system.phases
     cheap entry c =
         let p : IsPhaseOf system c.phase = all_at (IsPhaseOf system) system.phases entry.phase c.phase is.phases c.is_phase in
-        let one : HasOneList c.phase = all_at HasOneList system.phases entry.phase c.phase built c.is_phase in
-        let small : unsigned_abs (energy c.phase entry.site) ≤ sigma c.phase = energy_size c.phase entry.site p.fine one.no_magnetism c.constitution.shape in
+        let no_magnetism : c.phase.magnetic ≡ None = all_at (λ (phase : PhaseAt). phase.magnetic ≡ None) system.phases entry.phase c.phase built c.is_phase in
+        let small : unsigned_abs (energy c.phase entry.site) ≤ sigma c.phase = energy_size c.phase entry.site p.fine no_magnetism c.constitution.shape in
         simp c.is_phase (omega (arith, small, le-greatest sigma system.phases entry.phase c.phase c.is_phase))

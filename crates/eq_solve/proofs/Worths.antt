@@ -4,7 +4,7 @@ use Rattle.std.specs.Prelude.{ℤ, pos, ◌+ℤ◌, ◌*ℤ◌}
 use Rattle.std.proofs.lemmas.Int.{ints}
 use Rattle.cal_math.specs.Vectors.{at, sum_to, dot}
 use Rattle.cal_math.proofs.Vectors.{dot-zero, dot-plus, dot-scale, dot_same}
-use Rattle.cef_report.specs.Certificates.{worth}
+use Rattle.cef_core.specs.Worth.{worth}
 
 pub worth-dot : (ms : List ℤ) (f : ℕ → ℤ) → worth ms f ≡ dot (length ms) (at ms) f
 worth-dot ms f = refl

@@ -5,11 +5,11 @@ use Rattle.cef_core.specs.declared.system.System.{System}
 use Rattle.cef_report.specs.declared.entry.Entry.{Entry}
 use Rattle.cef_report.specs.declared.report.Report.{Report}
 use Rattle.cef_report.specs.Assemblages.{content_of, energy_of, total}
-use Rattle.cef_report.specs.Certificates.{worth}
+use Rattle.cef_core.specs.Worth.{worth}
 use Rattle.cef_report.specs.Feasibility.{IsFeasible, IsProofOfNone}
 use Rattle.cef_report.specs.Holding.{IsBefore}
-use Rattle.eq_solve.specs.declared.swept.Swept.{Swept}
-use Rattle.eq_solve.specs.declared.swept.Swept.TheVariants.{Out}
+use Rattle.eq_sweep.specs.declared.swept.Swept.{Swept}
+use Rattle.eq_sweep.specs.declared.swept.Swept.TheVariants.{Out}
 use Rattle.eq_solve.specs.declared.fault.Open.{Open}
 use Rattle.eq_solve.specs.declared.fault.SolveFault.{SolveFault}
 use Rattle.eq_solve.specs.declared.fault.SolveFault.TheVariants.{Infeasible, GapNotClosed, Memory}
@@ -36,6 +36,7 @@ pub record IsKept (system : System) (s : ℕ) (potentials : List ℤ) (entry : E
 pub record IsOpen (system : System) (swept : List ℤ → ℕ → Swept → Type 0) (asked : List ℤ) (asked_gap budget : ℕ) (left : Open) : Type 0 where
   pub budget_low : budget < system.lists
   pub can_sweep : CanSweep system left.potentials
+  pub phase_in : left.phase < length system.phases
   pub out : swept left.potentials budget (Out left.phase)
   pub present : 0 < length left.entries
   pub rising : AllPairs IsBefore left.entries
@@ -50,9 +51,3 @@ abbrev pub IsFault : System → (List ℤ → ℕ → Swept → Type 0) → List
 IsFault system swept asked gap budget (Infeasible v) = IsProofOfNone system asked v.items × ¬ IsFeasible system asked
 IsFault system swept asked gap budget (GapNotClosed left) = IsOpen system swept asked gap budget left × IsFeasible system asked
 IsFault system swept asked gap budget Memory = Unit {0}
-
--- no budget was spent
-abbrev pub IsSettled : SolveFault → Type 0
-IsSettled (Infeasible v) = Unit {0}
-IsSettled (GapNotClosed left) = ⊥
-IsSettled Memory = Unit {0}

@@ -11,8 +11,8 @@ use Rattle.cef_report.specs.declared.entry.Entry.{Entry}
 use Rattle.cef_report.specs.Assemblages.{total, total_energy, IsAssemblage, IsWithin}
 use Rattle.cef_report.specs.Certificates.{IsAbove, MeetsGap}
 use Rattle.cef_report.specs.Holding.{IsBefore}
-use Rattle.eq_solve.specs.declared.swept.Swept.{Swept}
-use Rattle.eq_solve.specs.declared.swept.Swept.TheVariants.{Closed}
+use Rattle.eq_sweep.specs.declared.swept.Swept.{Swept}
+use Rattle.eq_sweep.specs.declared.swept.Swept.TheVariants.{Closed}
 use Rattle.eq_solve.specs.declared.found.Found.{Found}
 use Rattle.eq_solve.specs.Sweeps.{CanSweep}
 use Rattle.eq_solve.specs.Figures.{IsGreatest, is_some, entry_at, left_of}

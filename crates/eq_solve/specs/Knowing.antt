@@ -6,7 +6,7 @@ use Rattle.cef_report.specs.declared.entry.Entry.{Entry}
 use Rattle.cef_report.specs.Holding.{IsBefore}
 use Rattle.eq_solve.specs.declared.known.Known.{Known}
 use Rattle.eq_solve.specs.declared.point.Point.{Point}
-use Rattle.eq_solve.specs.Points.{AreKnown}
+use Rattle.eq_solve.specs.Points.{AreKnown, unknown, all_entries}
 
 pub record IsKnowing (system : System) (known : Known) : Type 0 where
   pub are : AreKnown system known.entries.items known.columns.items
@@ -31,3 +31,10 @@ pub data IsWith (known : Known) (point : Point) : Known → Type 0 where
       ((other : Entry) → slice_get known.entries.items place ≡ Some other → IsBefore point.entry other) →
       more.entries.items ≡ insert known.entries.items place point.entry →
       more.columns.items ≡ insert known.columns.items place point.column → IsWith known point more
+
+-- no more, or less of all lists of counts is unknown
+abbrev pub LeavesNoMore : System → Known → Known → Type 0
+LeavesNoMore system known more = unknown (all_entries system) more.entries.items ≤ unknown (all_entries system) known.entries.items
+
+abbrev pub LeavesLess : System → Known → Known → Type 0
+LeavesLess system known more = unknown (all_entries system) more.entries.items < unknown (all_entries system) known.entries.items

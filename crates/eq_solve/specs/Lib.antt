@@ -1,7 +1,7 @@
 -- What is claimed: which equilibria are answered, and why there is none.
 pub mod Answers
 pub mod Sweeps
-pub mod Single
+pub mod Modelled
 -- Workings: known constitutions and their columns, rounds over them, and the numbers of a plan.
 pub mod Points
 pub mod Knowing

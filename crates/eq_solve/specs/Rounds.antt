@@ -9,10 +9,11 @@ use Rattle.cef_core.specs.declared.system.System.{System}
 use Rattle.cef_core.specs.Constitutions.{IsConstitution, content}
 use Rattle.cef_report.specs.declared.entry.Entry.{Entry}
 use Rattle.cef_report.specs.Assemblages.{content_of}
-use Rattle.cef_report.specs.Certificates.{worth}
+use Rattle.cef_core.specs.Worth.{worth}
 use Rattle.cef_report.specs.Feasibility.{IsFeasible}
 use Rattle.cef_report.specs.Holding.{IsBefore}
-use Rattle.eq_solve.specs.declared.swept.Swept.{Swept}
+use Rattle.eq_sweep.specs.declared.swept.Swept.{Swept}
+use Rattle.eq_solve.specs.declared.point.Gain.{Gain}
 use Rattle.eq_solve.specs.declared.point.Point.{Point}
 use Rattle.eq_solve.specs.declared.point.Round.{Round}
 use Rattle.eq_solve.specs.declared.point.Round.TheVariants.{Done, Next}
@@ -30,7 +31,7 @@ pub record CanSolve (system : System) (asked : List ℤ) (gap : ℕ) : Type 0 wh
 -- an equilibrium, or a constitution that was not known, with its column
 abbrev pub IsRound : System → (List ℤ → ℕ → Swept → Type 0) → List ℤ → ℕ → ℕ → List Entry → Round → Type 0
 IsRound system swept asked gap budget known (Done found) = IsFound system swept asked gap budget found × IsFeasible system asked
-IsRound system swept asked gap budget known (Next point) = IsKnownAs system point.entry point.column × IsNew known point.entry
+IsRound system swept asked gap budget known (Next gain) = IsKnownAs system gain.first.entry gain.first.column × IsNew known gain.first.entry
 
 -- no constitution of a value above 0, or one with its column
 abbrev pub IsRising : System → List ℤ → Option Point → Type 0
@@ -43,6 +44,11 @@ IsRisingAt system v p None = (phase : PhaseAt) (counts : List (List ℕ)) → sl
 IsRisingAt system v p (Some point) = IsKnownAs system point.entry point.column × (pos 1 ≤ℤ worth v (content_of system point.entry))
 
 -- nothing, or a constitution that was not known, with its column
-abbrev pub IsGain : System → List Entry → Option Point → Type 0
+abbrev pub IsNewPoint : System → List Entry → Option Point → Type 0
+IsNewPoint system known None = Unit {0}
+IsNewPoint system known (Some point) = IsKnownAs system point.entry point.column × IsNew known point.entry
+
+-- nothing, or such a constitution before all else
+abbrev pub IsGain : System → List Entry → Option Gain → Type 0
 IsGain system known None = Unit {0}
-IsGain system known (Some point) = IsKnownAs system point.entry point.column × IsNew known point.entry
+IsGain system known (Some gain) = IsKnownAs system gain.first.entry gain.first.column × IsNew known gain.first.entry

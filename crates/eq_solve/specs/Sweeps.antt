@@ -4,10 +4,11 @@ use Rattle.cal_limits.specs.declared.TheConstants.{MOST_SWEPT}
 use Rattle.cef_core.specs.declared.system.System.{System}
 use Rattle.cef_report.specs.declared.entry.Entry.{Entry}
 use Rattle.cef_report.specs.Assemblages.{content_of, energy_of}
-use Rattle.cef_report.specs.Certificates.{worth, IsAbove}
+use Rattle.cef_report.specs.Certificates.{IsAbove}
+use Rattle.cef_core.specs.Worth.{worth}
 use Rattle.eq_solve.specs.Points.{IsConstitutionOf}
-use Rattle.eq_solve.specs.declared.swept.Swept.{Swept}
-use Rattle.eq_solve.specs.declared.swept.Swept.TheVariants.{Closed, Below, Out}
+use Rattle.eq_sweep.specs.declared.swept.Swept.{Swept}
+use Rattle.eq_sweep.specs.declared.swept.Swept.TheVariants.{Closed, Below, Out}
 
 -- one potential for each element, each of a magnitude of at most 2^116 / W
 pub record CanSweep (system : System) (potentials : List ℤ) : Type 0 where

@@ -3,10 +3,13 @@
 
 mod alone;
 mod amount;
+mod coarse;
+mod descent;
 mod fault;
 mod figure;
 mod found;
 mod known;
+mod modelled;
 mod phases;
 mod point;
 mod potential;
@@ -14,10 +17,10 @@ mod proposal;
 mod report;
 mod round;
 mod rounds;
-mod single;
+mod search;
 mod solving;
-mod swept;
 mod weight;
 
 pub use fault::{Open, SolveFault};
+pub use report::phase_names;
 pub use solving::equilibrium;

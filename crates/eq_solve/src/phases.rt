@@ -1,11 +1,11 @@
 ghost use Rattle.std.specs.Prelude.{ℕ, ℤ, List, IfOk};
 ghost use Rattle.cef_core.specs.declared.system.System.{System};
-ghost use Rattle.eq_solve.specs.declared.swept.Swept.{Swept};
+ghost use Rattle.eq_sweep.specs.declared.swept.Swept.{Swept};
 ghost use Rattle.eq_solve.specs.Points.{IsListOf, IsColumnOf};
 ghost use Rattle.eq_solve.specs.Sweeps.{CanSweep, Sweeps};
 
-use crate::swept::Swept;
 use cef_report::Entry;
+use eq_sweep::Swept;
 use lp_core::Column;
 use std::alloc::{AllocError, Global};
 
@@ -25,13 +25,16 @@ pub(crate) trait Phases {
         ensures exact { IfOk result (λ s. swept self.now potentials.now budget s) }
         ensures sound { IfOk result (λ s. Sweeps (system self.now) potentials.now budget s) };
 
-    /// A list of counts that may cost less than the potentials of a plan ask for it. Any answer serves: what is proposed is tested.
+    /// Lists of counts that may cost less than the potentials of a plan of the known columns ask for them, the likeliest last. Any answer
+    /// serves: what is proposed is tested.
     fn propose(
         &self,
         alloc: Global,
         potentials: &[i128],
         denominator: i128,
-    ) -> Result<Option<Entry>, AllocError>
+        known: &[Entry],
+        columns: &[Column],
+    ) -> Result<Vec<Entry>, AllocError>
         requires { ready self.now };
 
     /// The content and the energy of a list of counts.

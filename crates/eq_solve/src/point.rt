@@ -15,11 +15,18 @@ pub(crate) struct Point {
     pub(crate) column: Column,
 }
 
-/// What a round comes to: the equilibrium, or a constitution that was not known.
+/// A constitution that was not known, and entries that may be further ones.
+#[derive(Drop)]
+pub(crate) struct Gain {
+    pub(crate) first: Point,
+    pub(crate) others: Vec<Entry>,
+}
+
+/// What a round comes to: the equilibrium, or a gain.
 #[derive(Drop)]
 pub(crate) enum Round {
     Done(Found),
-    Next(Point),
+    Next(Gain),
 }
 
 /// A list of counts of a phase, with its column.

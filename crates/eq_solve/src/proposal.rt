@@ -4,10 +4,10 @@ ghost use Rattle.cal_math.specs.Vectors.{at, sum_to, dot};
 ghost use Rattle.lp_basis.specs.Rows.{FitsProduct};
 ghost use Rattle.lp_core.specs.Plans.{IsPlan};
 ghost use Rattle.eq_solve.specs.Points.{AreKnown, IsConstitutionOf};
-ghost use Rattle.eq_solve.specs.Rounds.{CanSolve, IsGain};
+ghost use Rattle.eq_solve.specs.Rounds.{CanSolve, IsGain, IsNewPoint};
 
 use crate::phases::Phases;
-use crate::point::Point;
+use crate::point::{Gain, Point};
 use cal_whole::times;
 use cef_core::{System, has_content, is_list};
 use cef_report::Entry;
@@ -43,7 +43,35 @@ fn costs_less(column: &Column, potentials: &[i128], denominator: i128) -> bool
     cost < price
 }
 
-/// What the search proposes under a plan, where it is a constitution that costs less than its price: so it is not known.
+/// A proposed entry with its column, where it is a constitution that costs less than its price: so it is not known.
+fn priced<P: Phases>(
+    alloc: Global,
+    system: &System,
+    phases: &P,
+    asked: &[i128],
+    gap: u64,
+    known: &[Entry],
+    columns: &[Column],
+    plan: &Plan,
+    entry: Entry,
+) -> Result<Option<Point>, AllocError>
+    requires ready { P.ready phases.now }
+    requires same { P.system phases.now ≡ system.now }
+    requires can { CanSolve system.now asked.now gap }
+    requires known { AreKnown system.now known.now columns.now }
+    requires plan { IsPlan columns.now asked.now plan.now }
+    ensures { IfOk result (λ found. IsNewPoint system.now known.now found) }
+{
+    if is_constitution(system, &entry) {
+        let column = phases.column(alloc, &entry)?;
+        if costs_less(&column, &plan.potentials, plan.denominator) {
+            return Ok(Some(Point { entry, column }));
+        }
+    }
+    Ok(None)
+}
+
+/// What the search proposes under a plan, from the first entry on that was not known.
 pub(crate) fn gain<P: Phases>(
     alloc: Global,
     system: &System,
@@ -53,7 +81,7 @@ pub(crate) fn gain<P: Phases>(
     known: &[Entry],
     columns: &[Column],
     plan: &Plan,
-) -> Result<Option<Point>, AllocError>
+) -> Result<Option<Gain>, AllocError>
     requires ready { P.ready phases.now }
     requires same { P.system phases.now ≡ system.now }
     requires can { CanSolve system.now asked.now gap }
@@ -61,17 +89,14 @@ pub(crate) fn gain<P: Phases>(
     requires plan { IsPlan columns.now asked.now plan.now }
     ensures { IfOk result (λ found. IsGain system.now known.now found) }
 {
-    let proposed = phases.propose(alloc, &plan.potentials, plan.denominator)?;
-    match proposed {
-        None => Ok(None),
-        Some(entry) => {
-            if is_constitution(system, &entry) {
-                let column = phases.column(alloc, &entry)?;
-                if costs_less(&column, &plan.potentials, plan.denominator) {
-                    return Ok(Some(Point { entry, column }));
-                }
-            }
-            Ok(None)
+    let mut others = phases.propose(alloc, &plan.potentials, plan.denominator, known, columns)?;
+    'proposals: while let Some(entry) = others.pop() {
+        let found = priced(
+            alloc, system, phases, asked, gap, known, columns, plan, entry,
+        )?;
+        if let Some(first) = found {
+            return Ok(Some(Gain { first, others }));
         }
     }
+    Ok(None)
 }

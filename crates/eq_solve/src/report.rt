@@ -7,7 +7,8 @@ use cef_core::{Name, PhaseAt, System};
 use cef_report::Report;
 use std::alloc::{AllocError, Global};
 
-fn names_of(alloc: Global, phases: &[PhaseAt]) -> Result<Items<Name>, AllocError>
+/// The names of phases.
+pub fn phase_names(alloc: Global, phases: &[PhaseAt]) -> Result<Items<Name>, AllocError>
     ensures { IfOk result (λ names. names ≡ map (λ phase. phase.name) phases.now) }
 {
     let mut names = Items::new(alloc);
@@ -47,7 +48,7 @@ pub(crate) fn report_of(
     ensures { IfOk result (λ report. Reports system.now asked.now found report) }
 {
     let elements = copies(alloc, system.elements.as_slice())?;
-    let phases = names_of(alloc, system.phases.as_slice())?;
+    let phases = phase_names(alloc, system.phases.as_slice())?;
     let asked_numbers = numbers_of(alloc, asked)?;
     Ok(Report {
         t: system.t,

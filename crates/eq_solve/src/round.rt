@@ -11,14 +11,14 @@ use crate::amount::{amounts_of, entries_of};
 use crate::fault::{Open, SolveFault};
 use crate::found::found_of;
 use crate::phases::Phases;
-use crate::point::{Round, point_of};
+use crate::point::{Gain, Round, point_of};
 use crate::potential::{margin_of, potentials_of};
 use crate::proposal::gain;
-use crate::swept::Swept;
 use crate::weight::rising_plan;
 use cal_list::Items;
 use cef_core::System;
 use cef_report::Entry;
+use eq_sweep::Swept;
 use lp_core::{Column, LpFault, Plan, solve};
 use std::alloc::Global;
 
@@ -50,8 +50,11 @@ fn planned<P: Phases>(
     let swept = phases.sweep(alloc, &potentials, budget)?;
     match swept {
         Swept::Below { phase, site } => {
-            let point = point_of(alloc, phases, phase, site)?;
-            Ok(Round::Next(point))
+            let first = point_of(alloc, phases, phase, site)?;
+            Ok(Round::Next(Gain {
+                first,
+                others: Vec::new(alloc),
+            }))
         }
         Swept::Out { phase } => {
             let entries = entries_of(alloc, known, &amounts)?;
@@ -91,7 +94,10 @@ fn refused<P: Phases>(
     let found = rising(alloc, system, phases, &v)?;
     match found {
         None => Err(SolveFault::Infeasible(v)),
-        Some(point) => Ok(Round::Next(point)),
+        Some(first) => Ok(Round::Next(Gain {
+            first,
+            others: Vec::new(alloc),
+        })),
     }
 }
 
@@ -120,7 +126,7 @@ pub(crate) fn round<P: Phases>(
             let plan = rising_plan(alloc, first)?;
             let found = gain(alloc, system, phases, asked, gap, known, columns, &plan)?;
             match found {
-                Some(point) => Ok(Round::Next(point)),
+                Some(gain) => Ok(Round::Next(gain)),
                 None => planned(
                     alloc, system, phases, asked, gap, budget, known, columns, plan,
                 ),

@@ -2,22 +2,23 @@ ghost use Rattle.std.specs.Prelude.{◌≡◌, IfOk, IfErr};
 ghost use Rattle.cef_report.specs.Feasibility.{IsFeasible};
 ghost use Rattle.eq_solve.specs.Answers.{IsFault};
 ghost use Rattle.eq_solve.specs.Finding.{IsFound};
-ghost use Rattle.eq_solve.specs.Knowing.{IsKnowing};
+ghost use Rattle.eq_solve.specs.Knowing.{IsKnowing, LeavesLess, LeavesNoMore};
+ghost use Rattle.eq_solve.specs.Points.{IsKnownAs, IsNew};
 ghost use Rattle.eq_solve.specs.Rounds.{CanSolve};
 
 use crate::fault::SolveFault;
 use crate::found::Found;
 use crate::known::Known;
 use crate::phases::Phases;
-use crate::point::{Point, Round};
+use crate::point::{Gain, Point, Round};
 use crate::proposal::is_constitution;
 use crate::round::round;
 use cef_core::System;
 use cef_report::Entry;
 use std::alloc::{AllocError, Global};
 
-/// What is known with a start among it, where that is a constitution.
-fn with_start<P: Phases>(
+/// What is known with an entry among it, where that has a constitution.
+fn with_entry<P: Phases>(
     alloc: Global,
     system: &System,
     phases: &P,
@@ -27,7 +28,8 @@ fn with_start<P: Phases>(
     requires ready { P.ready phases.now }
     requires same { P.system phases.now ≡ system.now }
     requires known { IsKnowing system.now known }
-    ensures { IfOk result (λ more. IsKnowing system.now more) }
+    ensures known { IfOk result (λ more. IsKnowing system.now more) }
+    ensures fewer { IfOk result (λ more. LeavesNoMore system.now known more) }
 {
     if is_constitution(system, start) {
         let site = start.site.copy(alloc)?;
@@ -44,22 +46,47 @@ fn with_start<P: Phases>(
     }
 }
 
-/// What is known at the start.
-fn known_of<P: Phases>(
+/// What is known with those of these entries among it that have constitutions.
+fn with_entries<P: Phases>(
     alloc: Global,
     system: &System,
     phases: &P,
-    starts: &[Entry],
+    known: Known,
+    entries: &[Entry],
 ) -> Result<Known, AllocError>
     requires ready { P.ready phases.now }
     requires same { P.system phases.now ≡ system.now }
-    ensures { IfOk result (λ known. IsKnowing system.now known) }
+    requires known { IsKnowing system.now known }
+    ensures known { IfOk result (λ more. IsKnowing system.now more) }
+    ensures fewer { IfOk result (λ more. LeavesNoMore system.now known more) }
 {
-    let mut known = Known::new(alloc);
-    'starts: for start in starts {
-        known = with_start(alloc, system, phases, known, start)?;
+    let mut more = known;
+    'entries: for entry in entries {
+        more = with_entry(alloc, system, phases, more, entry)?;
     }
-    Ok(known)
+    Ok(more)
+}
+
+/// What is known with what a round has gained.
+fn with_gain<P: Phases>(
+    alloc: Global,
+    system: &System,
+    phases: &P,
+    known: Known,
+    gain: Gain,
+) -> Result<Known, AllocError>
+    requires ready { P.ready phases.now }
+    requires same { P.system phases.now ≡ system.now }
+    requires known { IsKnowing system.now known }
+    requires point { IsKnownAs system.now gain.first.entry gain.first.column }
+    requires new { IsNew known.entries.items gain.first.entry }
+    ensures known { IfOk result (λ more. IsKnowing system.now more) }
+    ensures fewer { IfOk result (λ more. LeavesLess system.now known more) }
+{
+    let Gain { first, others } = gain;
+    let with_first = known.with(first)?;
+    let all = with_entries(alloc, system, phases, with_first, &others)?;
+    Ok(all)
 }
 
 /// The numbers of an equilibrium of a system for the asked totals in units of 1/N nmol, the asked gap in µJ per mol of components, and the
@@ -83,7 +110,7 @@ pub(crate) fn equilibrium_by_rounds<P: Phases>(
     ensures feasible { IfOk result (λ found. IsFeasible system.now asked.now) }
     ensures fault { IfErr result (λ fault. IsFault system.now (P.swept phases.now) asked.now gap budget fault) }
 {
-    let mut known = known_of(alloc, system, phases, starts)?;
+    let mut known = with_entries(alloc, system, phases, Known::new(alloc), starts)?;
     'rounds: loop {
         let next = round(
             alloc,
@@ -97,8 +124,8 @@ pub(crate) fn equilibrium_by_rounds<P: Phases>(
         )?;
         match next {
             Round::Done(found) => return Ok(found),
-            Round::Next(point) => {
-                known = known.with(point)?;
+            Round::Next(gain) => {
+                known = with_gain(alloc, system, phases, known, gain)?;
             }
         }
     }

@@ -1,17 +1,19 @@
-ghost use Rattle.std.specs.Prelude.{◌≡◌, ◌≤◌, map, IfOk, IfErr};
+ghost use Rattle.std.specs.Prelude.{◌≡◌, ◌≤◌, map, length, IfOk, IfErr};
 ghost use Rattle.cal_limits.specs.declared.TheConstants.{LEAST_GAP, MOST_GAP};
 ghost use Rattle.cef_core.specs.Systems.{IsSystem};
 ghost use Rattle.cef_report.specs.Holding.{Holds};
 ghost use Rattle.cef_report.specs.Certificates.{IsCertified};
 ghost use Rattle.cef_report.specs.Feasibility.{AreAsked, IsFeasible};
 ghost use Rattle.cef_report.specs.Spelled.{IsSpelled};
-ghost use Rattle.eq_solve.specs.Answers.{IsFault, IsNear, IsSettled};
-ghost use Rattle.eq_solve.specs.Single.{IsBuilt, IsSweptOnce, only_leaf};
+ghost use Rattle.eq_sweep.specs.declared.swept.Swept.TheVariants.{Closed};
+ghost use Rattle.eq_sweep.specs.Sweeps.{IsSweep};
+ghost use Rattle.eq_solve.specs.Answers.{IsFault, IsNear};
+ghost use Rattle.eq_solve.specs.Modelled.{IsBuilt};
 
 use crate::fault::SolveFault;
+use crate::modelled::{Modelled, searches_of, starts_of};
 use crate::report::report_of;
 use crate::rounds::equilibrium_by_rounds;
-use crate::single::{SingleLists, starts_of};
 use cef_core::System;
 use cef_phase::PhaseModel;
 use cef_report::Report;
@@ -19,7 +21,7 @@ use std::alloc::Global;
 
 /// The equilibrium of a system for the asked totals, in units of 1/N nmol, with a gap of at most the asked one, in µJ per mol of
 /// components. The budget is the number of splits of boxes that each sweep may make. `models` are those of the system's phases, in order.
-/// So far each phase has one list of counts, so no sweep splits a box, and no budget is ever spent.
+/// No phase has magnetism yet.
 pub fn equilibrium<P: PhaseModel>(
     alloc: Global,
     system: &System,
@@ -38,24 +40,20 @@ pub fn equilibrium<P: PhaseModel>(
     ensures certified { IfOk result (λ r. IsCertified system.now gap r) }
     ensures near { IfOk result (λ r. IsNear system.now r) }
     ensures spelled { IfOk result (λ r. IsSpelled r) }
-    ensures trees { IfOk result (λ r. r.trees ≡ map only_leaf system.now.phases) }
+    ensures trees { IfOk result (λ r. IsSweep system.now.phases r.potentials budget (Closed r.trees)) }
 
     // An answer other than `Infeasible` and `Memory` comes only where the asked totals are feasible.
     ensures feasible { IfOk result (λ r. IsFeasible system.now asked.now) }
-    ensures fault { IfErr result (λ fault. IsFault system.now (IsSweptOnce system.now) asked.now gap budget fault) }
-    ensures settled { IfErr result (λ fault. IsSettled fault) }
+    ensures fault { IfErr result (λ fault. IsFault system.now (IsSweep system.now.phases) asked.now gap budget fault) }
 {
-    let phases = SingleLists { system, models };
-    let starts = starts_of(alloc, system.phases.as_slice())?;
-    let found = equilibrium_by_rounds(
-        alloc,
+    let searches = searches_of(alloc, models, system.elements.len())?;
+    let phases = Modelled {
         system,
-        &phases,
-        starts.as_slice(),
-        asked,
-        gap,
-        budget,
-    )?;
+        models,
+        searches,
+    };
+    let starts = starts_of(alloc, system.phases.as_slice())?;
+    let found = equilibrium_by_rounds(alloc, system, &phases, &starts, asked, gap, budget)?;
     let report = report_of(alloc, system, asked, found)?;
     Ok(report)
 }

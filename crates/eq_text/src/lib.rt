@@ -6,4 +6,4 @@ mod write;
 
 pub use cal_lines::TextFault;
 pub use read::read_report;
-pub use write::write_report;
+pub use write::{write_entries, write_report};

@@ -11,7 +11,7 @@ use Rattle.cef_core.specs.Phases.{IsFine, IsPhase, IsParameter, sigma}
 use Rattle.cef_core.specs.Points.{number_of}
 use Rattle.cef_core.specs.Systems.{IsPhaseOf, IsSystem, widest_of, dearest_of}
 use Rattle.cef_report.specs.Feasibility.{AreAsked}
-use Rattle.eq_solve.specs.Single.{HasOneList, IsBuilt}
+use Rattle.eq_solve.specs.Modelled.{IsBuilt}
 use Rattle.solving_tests.specs.Compounds.{compound, of_two, reference_of, HasModel}
 
 -- numbers of a compound within the limits
@@ -45,9 +45,6 @@ fine name scale a b micro small = record {
   sites = omega arith;
   degrees = (omega arith, tt);
 }
-
-one_list : (name : List ℕ) (scale a b : ℕ) (micro : ℤ) → HasOneList (compound name scale a b micro)
-one_list name scale a b micro = record { sites = (refl, (refl, tt)); no_magnetism = refl }
 
 elements_are : AreNames ((65 ∷ []) ∷ (66 ∷ []) ∷ [])
 unfolding IsDistinct is_name
@@ -86,12 +83,12 @@ system_is first_name s a b g second_name t c d h widest is = record {
 }
 
 pub built_is : (first_name : List ℕ) (s a b : ℕ) (g : ℤ) (second_name : List ℕ) (t c d : ℕ) (h : ℤ) (widest : ℕ) → IsBuilt (of_two (compound first_name s a b g) (compound second_name t c d h) widest)
-built_is first_name s a b g second_name t c d h widest = (one_list first_name s a b g, (one_list second_name t c d h, tt))
+built_is first_name s a b g second_name t c d h widest = (refl, (refl, tt))
 
 -- every phase of a built system has a model
-models_from : (system : System) (phases : List PhaseAt) → AllByRecursion (IsPhaseOf system) phases → AllByRecursion HasOneList phases → All HasModel phases
+models_from : (system : System) (phases : List PhaseAt) → AllByRecursion (IsPhaseOf system) phases → AllByRecursion (λ (phase : PhaseAt). phase.magnetic ≡ None) phases → All HasModel phases
 models_from system [] are built k d lt = absurd (omega arith)
-models_from system (phase ∷ phases) are built zero d lt = record { fine = are.0.fine; no_magnetism = built.0.no_magnetism }
+models_from system (phase ∷ phases) are built zero d lt = record { fine = are.0.fine; no_magnetism = built.0 }
 models_from system (phase ∷ phases) are built (suc k) d lt = models_from system phases are.1 built.1 k d (omega arith)
 
 pub have_models : (system : System) → IsSystem system → IsBuilt system → All HasModel system.phases

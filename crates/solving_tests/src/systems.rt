@@ -1,7 +1,7 @@
 ghost use Rattle.std.specs.Prelude.{◌≡◌, ◌≤◌, ◌∷◌, [], Some, All, IfOk, length, map, pos, ◌≤ℤ◌};
 ghost use Rattle.cef_core.specs.Systems.{IsSystem};
 ghost use Rattle.cal_limits.specs.declared.TheConstants.{MOST_ASKED};
-ghost use Rattle.eq_solve.specs.Single.{IsBuilt};
+ghost use Rattle.eq_solve.specs.Modelled.{IsBuilt};
 ghost use Rattle.solving_tests.specs.Compounds.{compound, of_two, reference_of, HasModel};
 
 use cal_list::{Items, one};

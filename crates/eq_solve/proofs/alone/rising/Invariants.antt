@@ -2,7 +2,7 @@ use Rattle.std.proofs.Common.{◌≡◌, ℕ, ◌<◌, List}
 use Rattle.std.specs.Prelude.{Some, slice_get, pos, ◌≤ℤ◌}
 use Rattle.cef_core.specs.declared.phase.PhaseAt.{PhaseAt}
 use Rattle.cef_core.specs.Constitutions.{IsConstitution, content}
-use Rattle.cef_report.specs.Certificates.{worth}
+use Rattle.cef_core.specs.Worth.{worth}
 use Rattle.eq_solve.proofs.alone.rising.Given as goal
 
 abbrev pub invariant-phases : goal.invariant-phases

@@ -3,8 +3,8 @@ use Rattle.std.specs.Prelude.{pos}
 use Rattle.std.specs.Int.{w128}
 use Rattle.std.proofs.lemmas.Int.{to_z-of_z}
 use Rattle.cef_core.specs.declared.system.System.{System}
-use Rattle.eq_solve.specs.declared.swept.Swept.{Swept}
-use Rattle.eq_solve.specs.declared.swept.Swept.TheVariants.{Closed, Out}
+use Rattle.eq_sweep.specs.declared.swept.Swept.{Swept}
+use Rattle.eq_sweep.specs.declared.swept.Swept.TheVariants.{Closed, Out}
 use Rattle.eq_solve.specs.Prices.{lowered, floored}
 use Rattle.eq_solve.specs.Points.{IsColumnOf}
 use Rattle.eq_solve.specs.Sweeps.{CanSweep, Sweeps, IsBelow}
@@ -48,9 +48,9 @@ returns-in-Below-clause-round g c =
     let told : Sweeps c.args.system.now c.in_ok-potentials.potentials.items c.args.budget c.in_ok-swept.swept = rw (c.requires.same, c.deref-3.ensures.value) at c.in_ok-swept.ensures.sound in
     let below : IsBelow c.args.system.now c.in_ok-potentials.potentials.items (record { phase = c.in-Below.phase; amount = pos 0; site = c.in-Below.site }) =
     subst (λ (s : Swept). Sweeps c.args.system.now c.in_ok-potentials.potentials.items c.args.budget s) c.in-Below.is told in
-    let entry_below : IsBelow c.args.system.now c.in_ok-potentials.potentials.items c.in_ok-point-in-Below.point.entry = rw c.in_ok-point-in-Below.ensures.entry below in
-    let column_is : IsColumnOf c.args.system.now c.in_ok-point-in-Below.point.entry c.in_ok-point-in-Below.point.column = rw c.requires.same at c.in_ok-point-in-Below.ensures.column in
-    point_new c.args.system.now c.args.known.now c.args.columns.now c.args.asked.now c.in_ok-potentials.potentials.items c.margin_of-margin.result c.in_ok-amounts.amounts.items c.in_ok-point-in-Below.point.entry c.in_ok-point-in-Below.point.column c.requires.can.sized c.requires.known is entry_below column_is
+    let entry_below : IsBelow c.args.system.now c.in_ok-potentials.potentials.items c.in_ok-first-in-Below.first.entry = rw c.in_ok-first-in-Below.ensures.entry below in
+    let column_is : IsColumnOf c.args.system.now c.in_ok-first-in-Below.first.entry c.in_ok-first-in-Below.first.column = rw c.requires.same at c.in_ok-first-in-Below.ensures.column in
+    point_new c.args.system.now c.args.known.now c.args.columns.now c.args.asked.now c.in_ok-potentials.potentials.items c.margin_of-margin.result c.in_ok-amounts.amounts.items c.in_ok-first-in-Below.first.entry c.in_ok-first-in-Below.first.column c.requires.can.sized c.requires.known is entry_below column_is
 
 pub entries_of-requires : goal.entries_of-requires
 entries_of-requires g c =
@@ -75,7 +75,7 @@ returns-in-Out-clause-fault g c =
     let out_is : g.P.Phases.swept c.args.phases.now c.in_ok-potentials.potentials.items c.args.budget (Out c.in-Out.phase) = subst (λ (s : Swept). g.P.Phases.swept c.args.phases.now c.in_ok-potentials.potentials.items c.args.budget s) c.in-Out.is (rw c.deref-3.ensures.value at c.in_ok-swept.ensures.exact) in
     let entries = rw c.deref-in-Out.ensures.value at c.in_ok-entries-in-Out.ensures in (
       open_from c.args.system.now (g.P.Phases.swept c.args.phases.now) c.args.known.now c.args.columns.now c.args.asked.now c.in_ok-potentials.potentials.items c.margin_of-margin.result c.args.gap c.args.budget c.args.plan c.in_ok-amounts.amounts.items _
-          c.requires.known c.requires.order (rw amounts_are (floored_rising c.args.plan.parts c.args.plan.weights.items c.requires.rising)) c.requires.can.size c.margin_of-margin.ensures.is is.can c.requires.can.aim c.requires.plan amounts_are is.rounds out_is out.1 entries c.from_vec.ensures,
+          c.requires.known c.requires.order (rw amounts_are (floored_rising c.args.plan.parts c.args.plan.weights.items c.requires.rising)) c.requires.can.size c.margin_of-margin.ensures.is is.can c.requires.can.aim c.requires.plan amounts_are is.rounds out_is out.0 out.1 entries c.from_vec.ensures,
       feasible_from c.args.system.now c.args.known.now c.args.columns.now c.args.asked.now c.args.plan c.requires.known c.requires.can.size c.requires.plan,
     )
 

@@ -16,7 +16,7 @@ pub returns-in-Some-clause-round : goal.returns-in-Some-clause-round
 returns-in-Some-clause-round g c =
     let found = rw c.deref.ensures.value at c.in_ok-found.ensures in
     let risen = subst (λ (o : Option Point). IsRising c.args.system.now c.args.v.items o) c.in-Some.is found in
-    (risen.0, rising-new c.args.system.now c.args.known.now c.args.columns.now c.args.asked.now c.args.v.items c.in-Some.point.entry c.requires.known c.requires.can.size c.requires.none risen.1)
+    (risen.0, rising-new c.args.system.now c.args.known.now c.args.columns.now c.args.asked.now c.args.v.items c.in-Some.first.entry c.requires.known c.requires.can.size c.requires.none risen.1)
 
 pub rising-requires-clause-small : goal.rising-requires-clause-small
 rising-requires-clause-small g c = rw c.deref.ensures.value (none_can c.args.system.now c.args.known.now c.args.columns.now c.args.asked.now c.args.v.items c.requires.can.sized c.requires.known c.requires.can.size c.requires.none)
