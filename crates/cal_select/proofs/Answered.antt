@@ -1,5 +1,5 @@
 -- the answer behind the causes that do not stand
-use Rattle.std.proofs.Common.{◌≡◌, ◌≢◌, List, [], ◌∷◌, ◌++◌, Result, Ok, Err, Some, refl, ap, ◌∙◌, sym}
+use Rattle.std.proofs.Common.{◌≡◌, List, [], ◌++◌, Result, Ok, Err, Some, refl, ap, ◌∙◌, sym}
 use Rattle.cal_select.specs.declared.fault.SystemFault.{SystemFault}
 use Rattle.cal_select.specs.Causes.{first, Gives}
 use Rattle.cal_select.proofs.Firsts.{first-front, first-behind}

@@ -1,7 +1,7 @@
 -- How few names are kept.
-use Rattle.std.proofs.Common.{◌≡◌, ℕ, ◌+◌, ◌≤◌, List, [], ◌∷◌, length, Bool, true, false, cond, refl, ap, sym, ◌∙◌, arith}
-use Rattle.std.specs.Prelude.{filter, codes, ◌&&◌, ◌||◌}
-use Rattle.std.specs.List.{AllByRecursion, IsDistinct, list_any}
+use Rattle.std.proofs.Common.{◌≡◌, ◌+◌, ◌≤◌, List, [], ◌∷◌, length, Bool, true, false, cond, refl, ap, sym, ◌∙◌, arith}
+use Rattle.std.specs.Prelude.{filter, codes, ◌&&◌}
+use Rattle.std.specs.List.{IsDistinct}
 use Rattle.std.specs.Set.{is_member}
 use Rattle.std.proofs.lemmas.Bool.Decides.{Decides-eqb}
 use Rattle.std.proofs.lemmas.Slice.Eq.{slice_eq-Decides}
@@ -9,7 +9,7 @@ use Rattle.std.proofs.lemmas.Cmp.{nat_list_eq_equiv}
 use Rattle.std.proofs.lemmas.Map.Made.{is_member-filter, length-le_from_is_member}
 use Rattle.cal_scan.specs.Names.{same_name}
 use Rattle.cal_select.proofs.Everywhere.{all-filter}
-use Rattle.cal_select.specs.Chosen.{Word, is_in, is_kept, is_vacancy, kept_of, components_of}
+use Rattle.cal_select.specs.Chosen.{Word, is_in, is_kept, kept_of}
 
 pub distinct-filter : (p : Word → Bool) (xs : List Word) → IsDistinct same_name xs → IsDistinct same_name (filter p xs)
 unfolding IsDistinct

@@ -1,5 +1,5 @@
 -- the first cause of a list, of a list of lists, and of what is kept of a list
-use Rattle.std.proofs.Common.{◌≡◌, ℕ, zero, suc, ◌+◌, List, [], ◌∷◌, ◌++◌, Some, None, Option, slice_get, take, map, refl, ap, ◌∙◌, add-one, sym, true, false, Bool, length, cond, get_or, ◌<◌, ◌≢◌}
+use Rattle.std.proofs.Common.{◌≡◌, ℕ, zero, suc, ◌+◌, List, [], ◌∷◌, ◌++◌, Some, slice_get, take, refl, ap, ◌∙◌, add-one, sym, true, false, Bool, length, cond, get_or, ◌<◌, ◌≢◌}
 use Rattle.std.proofs.lemmas.Option.{slice_get_read}
 use Rattle.std.specs.Prelude.{filter}
 use Rattle.std.specs.List.{flat_map}

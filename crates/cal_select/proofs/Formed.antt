@@ -1,6 +1,6 @@
 -- The parameters of a selected phase have a form of the formalism.
-use Rattle.std.proofs.Common.{◌≡◌, ℕ, zero, suc, ◌+◌, ◌≤◌, ◌<◌, List, [], ◌∷◌, length, map, Bool, true, false, cond, not, Option, Some, None, refl, ap, sym, ◌∙◌, arith, subst}
-use Rattle.std.specs.Prelude.{filter, nat_eq, nat_lt, nat_le, ◌==◌, ◌&&◌, ◌||◌, is_some}
+use Rattle.std.proofs.Common.{◌≡◌, ℕ, ◌≤◌, ◌<◌, List, [], ◌∷◌, length, map, Bool, true, false, Option, refl, ap, sym, ◌∙◌, arith, subst}
+use Rattle.std.specs.Prelude.{filter, nat_eq, nat_lt, nat_le, ◌==◌, ◌&&◌, ◌||◌}
 use Rattle.std.specs.Cmp.{IsEquivalence}
 use Rattle.std.specs.Cmp.Lexicographic.{pointwise}
 use Rattle.std.proofs.Common.{get_or}
@@ -9,7 +9,6 @@ use Rattle.std.specs.Option.{unwrap_or}
 use Rattle.std.proofs.lemmas.Bool.Decides.{nat_tests}
 use Rattle.std.proofs.lemmas.Cmp.{nat_list_eq_equiv}
 use Rattle.std.proofs.lemmas.List.{length-map}
-use Rattle.std.proofs.lemmas.List.Sums.{prefix_len_stops}
 use Rattle.cal_scan.specs.Names.{same_name}
 use Rattle.cef_kind.specs.declared.kind.Kind.{Kind}
 use Rattle.cef_kind.specs.declared.kind.Kind.TheVariants.{G, Tc, Beta, Unread, Other}
@@ -19,7 +18,6 @@ use Rattle.cef_core.specs.Phases.{ArePlaces, AreDistinct, IsOrder}
 use Rattle.cal_select.specs.Chosen.{Word, is_in}
 use Rattle.cal_select.specs.Parameters.{has_effect, is_other, are_kept, places_of, array_at, has_twice, interactions, may_have_order, is_ternary}
 use Rattle.cal_select.proofs.Everywhere.{left_true, right_true, left_false, right_false}
-use Rattle.cal_select.proofs.Few.{same_is}
 use Rattle.cal_select.proofs.Kept_lists.{filter-map}
 use Rattle.cal_select.proofs.Name_places.{IsPlace, place}
 

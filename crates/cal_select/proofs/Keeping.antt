@@ -1,6 +1,6 @@
 -- Where no cause stands, the phase of an entry keeps the limits of a phase.
-use Rattle.std.proofs.Common.{◌≡◌, ℕ, zero, suc, ◌+◌, ◌*◌, ◌^◌, ◌≤◌, ◌<◌, ◌⊎◌, inl, inr, List, [], ◌∷◌, ◌++◌, length, map, sum, Bool, true, false, not, Option, Some, None, refl, ap, sym, ◌∙◌, arith, subst}
-use Rattle.std.specs.Prelude.{filter, nat_lt, ◌==◌, ◌&&◌, ◌||◌}
+use Rattle.std.proofs.Common.{◌≡◌, ℕ, ◌+◌, ◌^◌, ◌≤◌, inl, inr, List, [], ◌∷◌, length, map, sum, Bool, true, false, not, Option, ap, sym, ◌∙◌, arith, subst}
+use Rattle.std.specs.Prelude.{nat_lt, ◌==◌, ◌&&◌}
 use Rattle.std.specs.List.{AllByRecursion, list_any, list_all}
 use Rattle.std.specs.Option.{unwrap_or}
 use Rattle.std.proofs.lemmas.Bool.Decides.{nat_tests}
@@ -11,20 +11,20 @@ use Rattle.cef_core.specs.declared.job.Job.{Job}
 use Rattle.cef_core.specs.declared.phase.PhaseAt.{PhaseAt}
 use Rattle.cef_core.specs.Jobs.{IsJob}
 use Rattle.cef_core.specs.Energies.{is_curie, is_moment}
-use Rattle.cef_core.specs.Shapes.{shape, places}
-use Rattle.cef_core.specs.Phases.{IsParameter, IsPhase, IsFine, sigma, magnitudes, degree}
+use Rattle.cef_core.specs.Shapes.{shape}
+use Rattle.cef_core.specs.Phases.{IsParameter, IsFine, sigma, magnitudes, degree}
 use Rattle.tdb_read.specs.declared.phase.PhaseText.{PhaseText}
 use Rattle.tdb_read.specs.Sound.{IsPhaseText, IsEntry, IsSound}
 use Rattle.tdb_read.specs.Database.{Database}
 use Rattle.cal_select.specs.Valuations.{Valuation}
-use Rattle.cal_select.specs.Chosen.{Word, PhaseEntry, is_in, is_kept, all_kept_of, sites_at, qualifies}
-use Rattle.cal_select.specs.Wholes.{decimals_of, whole_ratios, scaled, is_whole_at}
+use Rattle.cal_select.specs.Chosen.{Word, PhaseEntry, is_in, is_kept, sites_at, qualifies}
+use Rattle.cal_select.specs.Wholes.{whole_ratios, scaled}
 use Rattle.cal_select.specs.Types.{applying}
 use Rattle.cal_select.specs.Parameters.{Entry, counts, has_order, is_of, parameters_of, needed_of, parameter_at}
 use Rattle.cal_select.specs.Selection.{decimals_in, scale_of, is_magnetic, kept_in, parameters_at, phase_at}
 use Rattle.cal_select.specs.Causes.{is_too_wide, is_too_energetic, is_too_high, has_too_high, type_causes, parameter_causes, phase_causes}
 use Rattle.cal_select.proofs.Firsts.{back_none}
-use Rattle.cal_select.proofs.Everywhere.{all-map, all-in, all-filter, all-passed, all-causeless, all-none, left_true, right_true, left_false, right_false}
+use Rattle.cal_select.proofs.Everywhere.{all-in, all-filter, all-passed, all-causeless, all-none, left_true, right_true, left_false, right_false}
 use Rattle.cal_select.proofs.Kept_sites.{sites_present, sites_few, sites_length, sites_components}
 use Rattle.cal_select.proofs.Whole_ratios.{AreWhole, are_whole, ratios_some}
 use Rattle.cal_select.proofs.Ranged_magnetism.{magnetic_ranged}

@@ -1,17 +1,16 @@
 -- The sites of a selected phase: how many there are, and of which components.
-use Rattle.std.proofs.Common.{◌≡◌, ℕ, zero, suc, ◌+◌, ◌*◌, ◌≤◌, ◌<◌, List, [], ◌∷◌, length, map, sum, Bool, true, false, cond, not, Option, Some, None, refl, ap, sym, ◌∙◌, arith, subst}
-use Rattle.std.specs.Prelude.{filter, nat_lt, ◌&&◌, ◌||◌, slice_get, slice_index_or}
-use Rattle.std.specs.List.{AllByRecursion, Any, list_any, list_all, position, position_or_len, prefix_len}
+use Rattle.std.proofs.Common.{◌≡◌, ℕ, suc, ◌+◌, ◌*◌, ◌≤◌, List, [], ◌∷◌, length, map, sum, Bool, true, false, cond, Option, Some, None, refl, sym, ◌∙◌, arith, subst}
+use Rattle.std.specs.Prelude.{filter, ◌||◌}
+use Rattle.std.specs.List.{AllByRecursion, Any, list_any, list_all}
 use Rattle.std.proofs.lemmas.List.{length-map}
 use Rattle.std.proofs.lemmas.List.Sums.{sum_by-cons}
-use Rattle.std.proofs.lemmas.Bool.Decides.{nat_tests}
 use Rattle.cal_scan.specs.Names.{same_name}
 use Rattle.cef_core.specs.Shapes.{shape, places}
 use Rattle.cef_core.specs.Systems.{IsAmong, IsOccupied, HasComponent}
 use Rattle.cef_core.specs.Phases.{IsComponent}
 use Rattle.tdb_read.specs.Sound.{AreConstituents}
 use Rattle.cal_select.specs.Chosen.{Word, is_in, is_kept, is_vacancy, kept_of, all_kept_of, component_of, sites_at}
-use Rattle.cal_select.proofs.Everywhere.{all-map, all-in, left_true, right_true, some_kept}
+use Rattle.cal_select.proofs.Everywhere.{all-in, left_true, right_true, some_kept}
 use Rattle.cal_select.proofs.Few.{few_kept}
 use Rattle.cal_select.proofs.Name_places.{position-within, place}
 

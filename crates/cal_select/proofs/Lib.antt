@@ -24,3 +24,4 @@ pub mod Entry_formed
 pub mod Keeping
 pub mod System_keeps
 pub mod Valuing
+pub mod By_phase

@@ -1,6 +1,6 @@
 -- lists that are made of what is kept of a list, while nothing of it gives a cause
-use Rattle.std.proofs.Common.{◌≡◌, ◌≢◌, ℕ, zero, suc, ◌+◌, ◌≤◌, List, [], ◌∷◌, ◌++◌, take, map, Option, Some, None, Result, Ok, Err, Bool, true, false, cond, refl, ap, sym, ◌∙◌, slice_get, length, arith, subst}
-use Rattle.std.specs.Prelude.{filter, ◌&&◌, sum}
+use Rattle.std.proofs.Common.{◌≡◌, ℕ, ◌+◌, ◌≤◌, List, [], ◌∷◌, ◌++◌, take, map, Option, Some, None, Bool, true, false, refl, ap, ◌∙◌, slice_get, length, arith, subst}
+use Rattle.std.specs.Prelude.{filter, sum}
 use Rattle.std.specs.List.{flat_map, AllByRecursion}
 use Rattle.std.specs.Option.{unwrap_or}
 use Rattle.std.proofs.lemmas.List.{take_all}
@@ -8,13 +8,12 @@ use Rattle.std.proofs.lemmas.Bool.Decides.{nat_tests}
 use Rattle.cal_dec.specs.declared.dec.Dec.{Dec}
 use Rattle.tdb_read.specs.Sound.{AreConstituents}
 use Rattle.cal_select.specs.declared.fault.SystemFault.{SystemFault}
-use Rattle.cal_select.specs.declared.fault.SystemFault.TheVariants as faults
-use Rattle.cal_select.specs.Chosen.{Word, kept_of, all_kept_of}
+use Rattle.cal_select.specs.Chosen.{Word, all_kept_of}
 use Rattle.cal_select.specs.Wholes.{decimals_of, whole_ratios}
 use Rattle.cal_select.specs.Selection.{decimals_in}
-use Rattle.cal_select.specs.Causes.{first, is_too_wide, is_wide_at}
+use Rattle.cal_select.specs.Causes.{is_too_wide, is_wide_at}
 use Rattle.cal_select.specs.Measures.{IsShort}
-use Rattle.cal_select.proofs.Firsts.{kept-on, kept-off, told-found, front_none, back_none}
+use Rattle.cal_select.proofs.Firsts.{kept-on, kept-off}
 use Rattle.cal_select.proofs.Taken.{kept-next, left_out-next}
 use Rattle.cal_select.proofs.Chosen_sites.{few_kept}
 
@@ -39,16 +38,6 @@ made-off f g p xs i x all is no_x before = record {
 
 pub made-all : {A B : Type 0} (f : A → List SystemFault) (g : A → B) (p : A → Bool) (xs : List A) (i : ℕ) (all : List B) → length xs ≤ i → IsMade f g (filter p (take i xs)) all → IsMade f g (filter p xs) all
 made-all {A = A} f g p xs i all passed made = subst (λ (ys : List A). IsMade f g (filter p ys) all) (take_all i xs passed) made
-
--- a filter behind a filter
-filter-cond : {A : Type 0} (q : A → Bool) (a b : Bool) (x : A) (xs ys : List A) → q x ≡ b → filter q xs ≡ ys → filter q (cond a (x ∷ xs) xs) ≡ cond (a && b) (x ∷ ys) ys
-filter-cond q true true x xs ys yes_x is = rw (yes_x, is) refl
-filter-cond q true false x xs ys no_x is = rw (no_x, is) refl
-filter-cond q false b x xs ys e is = is
-
-pub filter-both : {A : Type 0} (q p : A → Bool) (xs : List A) → filter q (filter p xs) ≡ filter (λ x. p x && q x) xs
-filter-both q p [] = refl
-filter-both q p (x ∷ xs) = filter-cond q (p x) (q x) x (filter p xs) (filter (λ y. p y && q y) xs) refl (filter-both q p xs)
 
 -- ---- what is known of a phase
 

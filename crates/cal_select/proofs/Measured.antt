@@ -1,7 +1,7 @@
 -- sums, greatest numbers and shapes of phases, element by element
-use Rattle.std.proofs.Common.{◌≡◌, ℕ, zero, suc, ◌+◌, ◌≤◌, ◌<◌, max, min, List, [], ◌∷◌, ◌++◌, length, map, take, Bool, true, false, cond, refl, ap, sym, ◌∙◌, arith, Some, slice_get, add-one}
+use Rattle.std.proofs.Common.{◌≡◌, ℕ, zero, suc, ◌+◌, ◌≤◌, max, List, [], ◌∷◌, length, map, take, Bool, true, false, cond, refl, sym, arith, Some, slice_get, add-one}
 use Rattle.std.specs.Prelude.{filter, ◌&&◌, ◌||◌, sum, not, ◌==◌}
-use Rattle.std.specs.List.{list_any, list_all, AllByRecursion, sum_by}
+use Rattle.std.specs.List.{list_any, list_all, AllByRecursion}
 use Rattle.std.proofs.lemmas.List.{length-map}
 use Rattle.std.proofs.lemmas.List.Sums.{sum_by-cons}
 use Rattle.cef_core.specs.Systems.{greatest}
@@ -18,7 +18,7 @@ use Rattle.cal_select.specs.Causes.{cause_if, is_too_energetic, energy_causes}
 use Rattle.cal_select.proofs.Firsts.{none-at, no_cause}
 use Rattle.cef_core.proofs.Adding.{total}
 use Rattle.tdb_read.specs.declared.phase.PhaseText.{PhaseText}
-use Rattle.cal_select.specs.Chosen.{Word, is_in, is_kept, kept_of, all_kept_of, sites_at, component_of, qualifies}
+use Rattle.cal_select.specs.Chosen.{Word, is_in, is_kept, all_kept_of, sites_at, component_of, qualifies}
 
 pub total-sum : {A : Type 0} (f : A → ℕ) (xs : List A) → total f xs ≡ sum (map f xs)
 total-sum f [] = refl

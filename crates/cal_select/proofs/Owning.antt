@@ -1,13 +1,13 @@
 -- What is known of every entry of a database.
-use Rattle.std.proofs.Common.{◌≡◌, ℕ, List, [], ◌∷◌, length, map, Bool, true, false, cond, refl, ap, sym, ◌∙◌, arith}
-use Rattle.std.specs.Prelude.{nat_eq, filter, ◌&&◌, ◌||◌, is_some}
+use Rattle.std.proofs.Common.{◌≡◌, List, [], ◌∷◌, map, Bool, true, false, cond, refl, ◌∙◌}
+use Rattle.std.specs.Prelude.{filter, ◌||◌}
 use Rattle.std.specs.Cmp.Lexicographic.{pointwise}
 use Rattle.std.specs.List.{AllByRecursion, IsDistinct, list_any}
-use Rattle.std.specs.Map.{lookup, keys_of}
+use Rattle.std.specs.Map.{keys_of}
 use Rattle.std.proofs.lemmas.Bool.{eq-eqb}
 use Rattle.cal_scan.specs.Names.{same_name}
 use Rattle.tdb_read.specs.declared.key.Key.{Key}
-use Rattle.tdb_read.specs.Database.{Database, same_key, same_array}
+use Rattle.tdb_read.specs.Database.{Database, same_key}
 use Rattle.cal_select.specs.Chosen.{Word, PhaseEntry}
 use Rattle.cal_select.specs.Parameters.{Entry, has_order, of_order}
 use Rattle.cal_select.proofs.Any.{lookup-any}

@@ -1,7 +1,7 @@
 -- powers of ten, as loops multiply and divide by ten
-use Rattle.std.proofs.Common.{◌≡◌, ℕ, zero, suc, ◌+◌, ◌*◌, ◌-◌, ◌/◌, ◌%◌, ◌^◌, ◌≤◌, ◌<◌, min, Option, Some, None, Bool, true, false, cond, refl, ap, sym, ◌∙◌, arith, mul_assoc, mul_comm}
+use Rattle.std.proofs.Common.{◌≡◌, ℕ, ◌+◌, ◌*◌, ◌-◌, ◌/◌, ◌%◌, ◌^◌, ◌<◌, min, Some, None, true, false, refl, ap, sym, ◌∙◌, arith, mul_assoc}
 use Rattle.std.specs.Prelude.{◌==◌, if◌then◌else◌}
-use Rattle.std.proofs.Math.Nat.{mul-div_cancel, mul-mod_left, mul-mod_right, pow-zero}
+use Rattle.std.proofs.Math.Nat.{mul-div_cancel, mul-mod_left, pow-zero}
 use Rattle.std.proofs.lemmas.Nat.{pow-add}
 use Rattle.std.proofs.lemmas.Grind.{pow_more}
 use Rattle.std.proofs.lemmas.Bool.Decides.{nat_tests}

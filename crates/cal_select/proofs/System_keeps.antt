@@ -1,7 +1,7 @@
 -- Where no cause stands, the system keeps its limits.
-use Rattle.std.proofs.Common.{◌≡◌, ℕ, zero, suc, ◌+◌, ◌*◌, ◌^◌, ◌≤◌, ◌<◌, List, [], ◌∷◌, ◌++◌, length, map, Bool, true, false, not, Option, Some, None, refl, ap, sym, ◌∙◌, arith, subst}
-use Rattle.std.specs.Prelude.{filter, nat_lt, ◌==◌, ◌&&◌, ◌||◌, is_some}
-use Rattle.std.specs.List.{AllByRecursion, IsDistinct, list_any, list_all, flat_map}
+use Rattle.std.proofs.Common.{◌≡◌, ℕ, ◌*◌, ◌≤◌, ◌<◌, List, [], ◌∷◌, ◌++◌, length, map, Bool, true, false, not, refl, ap, sym, ◌∙◌, arith, subst}
+use Rattle.std.specs.Prelude.{nat_lt, ◌==◌, ◌&&◌, ◌||◌, is_some}
+use Rattle.std.specs.List.{AllByRecursion, IsDistinct, list_any, list_all}
 use Rattle.std.specs.Map.{lookup, keys_of}
 use Rattle.std.proofs.lemmas.Bool.Decides.{nat_tests}
 use Rattle.std.proofs.lemmas.List.{length-map}
@@ -15,15 +15,14 @@ use Rattle.cef_core.specs.Jobs.{IsJob}
 use Rattle.cef_core.specs.Systems.{IsPhaseOf, IsSystem, dearest_of}
 use Rattle.tdb_read.specs.Sound.{IsName, IsPhaseText, IsSound}
 use Rattle.tdb_read.specs.Database.{Database}
-use Rattle.cal_select.specs.declared.fault.SystemFault.{SystemFault}
 use Rattle.cal_select.specs.declared.fault.SystemFault.TheVariants as faults
 use Rattle.cal_select.specs.Valuations.{Valuation}
 use Rattle.cal_select.specs.Chosen.{Word, PhaseEntry, is_in, is_vacancy, is_kept, is_listed, qualifies, is_selected, components_of, selected}
 use Rattle.cal_select.specs.Selection.{phase_at, phases_at, kept_in, system_of}
-use Rattle.cal_select.specs.Causes.{cause_if, is_gas, is_unknown_element, unknown_elements, unknown_phases, no_phase, ionic, too_wide, is_too_wide, phase_causes, all_phase_causes, is_too_energetic, energy_causes, lattice_causes, width_of, has_too_high, is_too_fine, fineness_causes, limit_causes, name_causes, choice_causes, causes}
+use Rattle.cal_select.specs.Causes.{cause_if, is_gas, is_unknown_element, unknown_elements, unknown_phases, no_phase, ionic, too_wide, is_too_wide, phase_causes, all_phase_causes, is_too_energetic, energy_causes, lattice_causes, width_of, has_too_high, is_too_fine, limit_causes, name_causes, choice_causes, causes}
 use Rattle.cal_select.proofs.Firsts.{front_none, back_none, no_cause}
 use Rattle.cal_select.proofs.Any.{lookup-any}
-use Rattle.cal_select.proofs.Everywhere.{all-map, all-in, all-filter, all-passed, all-causeless, all-none, left_true, right_true, left_false, right_false, some_kept}
+use Rattle.cal_select.proofs.Everywhere.{all-map, all-in, all-filter, all-passed, all-causeless, all-none, right_true, left_false, right_false, some_kept}
 use Rattle.cal_select.proofs.Few.{few_components, distinct-filter, same_is}
 use Rattle.cal_select.proofs.Formed.{own_name}
 use Rattle.cal_select.proofs.Kept_sites.{sites_among, sites_occupied}

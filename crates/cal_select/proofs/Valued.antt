@@ -1,16 +1,14 @@
 -- what a computed value says of any outcomes
-use Rattle.std.proofs.Common.{◌≡◌, ◌≢◌, ℕ, zero, suc, ◌≤◌, ◌<◌, ◌^◌, List, [], ◌∷◌, length, take, Some, Result, Ok, Err, ℤ, unsigned_abs, refl, ap, sym, subst, arith, slice_get}
+use Rattle.std.proofs.Common.{◌≡◌, ◌≢◌, ℕ, suc, ◌≤◌, ◌^◌, List, [], ◌∷◌, length, take, Some, Ok, Err, ℤ, unsigned_abs, refl, ap, sym, subst, arith, slice_get}
 use Rattle.std.specs.List.{AllByRecursion}
 use Rattle.std.proofs.lemmas.List.{take_all}
 use Rattle.tdb_expr.specs.declared.ranged.Ranged.{Ranged}
-use Rattle.tdb_expr.specs.Forms.{IsRanged}
 use Rattle.temp_fun.specs.declared.fault.EvalFault.{EvalFault}
 use Rattle.temp_fun.specs.declared.fault.EvalFault.TheVariants as stops
-use Rattle.temp_fun.specs.Functions.{Functions, AreFunctions}
+use Rattle.temp_fun.specs.Functions.{Functions}
 use Rattle.temp_fun.specs.Values.{IsValue, IsSmall, AreSmallSums, total}
 use Rattle.temp_fun.specs.Stops.{IsRefusal, IsAnswer}
 use Rattle.temp_fun.specs.Outcomes.{OneValue, OneRefusal, NotBoth}
-use Rattle.cal_select.specs.declared.fault.SystemFault.{SystemFault}
 use Rattle.cal_select.specs.declared.fault.SystemFault.TheVariants as faults
 use Rattle.cal_select.specs.Valuations.{Outcome, IsOutcome}
 use Rattle.cal_select.specs.Parameters.{nano_of}

@@ -1,6 +1,6 @@
 -- The whole ratios of a phase that is not too wide.
-use Rattle.std.proofs.Common.{◌≡◌, ℕ, zero, suc, ◌+◌, ◌*◌, ◌/◌, ◌%◌, ◌^◌, ◌≤◌, ◌<◌, List, [], ◌∷◌, length, map, sum, Bool, true, false, cond, Option, Some, None, refl, ap, sym, ◌∙◌, arith, subst}
-use Rattle.std.specs.Prelude.{nat_lt, ◌==◌, ℤ, pos, negsuc, ◌<ℤ◌, unsigned_abs, is_some, if◌then◌else◌}
+use Rattle.std.proofs.Common.{◌≡◌, ℕ, zero, suc, ◌+◌, ◌*◌, ◌/◌, ◌%◌, ◌^◌, ◌≤◌, ◌<◌, List, [], ◌∷◌, sum, Bool, true, false, cond, Option, Some, None, refl, arith, subst}
+use Rattle.std.specs.Prelude.{◌==◌, ℤ, pos, negsuc, ◌<ℤ◌, unsigned_abs, is_some, if◌then◌else◌}
 use Rattle.std.specs.List.{AllByRecursion, find, list_all, range_with_len}
 use Rattle.std.specs.Option.{unwrap_or}
 use Rattle.std.proofs.lemmas.Bool.Decides.{nat_tests}
@@ -11,7 +11,6 @@ use Rattle.cal_dec.specs.declared.dec.Dec.{Dec}
 use Rattle.tdb_read.specs.Sound.{IsRatio}
 use Rattle.cal_select.specs.Wholes.{scaled, scaled_by, is_whole_at, decimals_of, whole_ratios}
 use Rattle.cal_select.specs.Causes.{is_too_wide, is_wide_at}
-use Rattle.cal_select.specs.Selection.{decimals_in, scale_of}
 use Rattle.cal_select.proofs.Everywhere.{left_true, right_true}
 
 find_passes : (p : ℕ → Bool) (xs : List ℕ) (d : ℕ) → find p xs ≡ Some d → p d ≡ true

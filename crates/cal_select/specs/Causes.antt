@@ -1,5 +1,5 @@
 -- Why there is no system: all causes, in their order. The first one is answered.
-use Rattle.std.specs.Prelude.{◌≡◌, ◌≢◌, ℕ, ◌*◌, ◌^◌, nat_lt, List, [], ◌∷◌, ◌++◌, length, sum, codes, Bool, true, false, not, ◌&&◌, ◌||◌, Option, Some, None, Result, Ok, Err, if◌then◌else◌, ◌==◌, is_some}
+use Rattle.std.specs.Prelude.{◌≡◌, ◌≢◌, ℕ, ◌*◌, ◌^◌, nat_lt, List, [], ◌∷◌, ◌++◌, length, sum, codes, Bool, true, not, ◌||◌, Option, Some, None, Result, Ok, Err, if◌then◌else◌, ◌==◌, is_some}
 use Rattle.std.specs.List.{list_any, flat_map}
 use Rattle.std.specs.Map.{lookup}
 use Rattle.cal_limits.specs.declared.TheConstants.{MOST_RATIOS, MOST_ENERGY, MOST_CURIE, MOST_MOMENT, MOST_LISTS, MOST_WIDTH, MOST_COST, MOST_POWER}

@@ -1,5 +1,5 @@
 -- The parameters that a phase needs, their forms, and what they are at a temperature.
-use Rattle.std.specs.Prelude.{◌≡◌, ℕ, ◌*◌, nat_lt, nat_le, List, [], ◌∷◌, length, map, filter, Bool, true, false, not, ◌&&◌, ◌||◌, Option, Some, None, is_some, Result, Ok, Err, ◌==◌, ℤ, pos, ◌*ℤ◌}
+use Rattle.std.specs.Prelude.{ℕ, nat_lt, nat_le, List, [], ◌∷◌, length, map, filter, Bool, true, false, not, ◌&&◌, ◌||◌, is_some, Ok, Err, ◌==◌, ℤ, pos, ◌*ℤ◌}
 use Rattle.std.specs.List.{list_any, list_all, position}
 use Rattle.std.specs.Map.{lookup}
 use Rattle.std.specs.Option.{unwrap_or}

@@ -1,5 +1,5 @@
 -- The system that a job selects from a database.
-use Rattle.std.specs.Prelude.{ℕ, ◌^◌, List, length, map, Bool, Option, is_some}
+use Rattle.std.specs.Prelude.{ℕ, ◌^◌, List, map, Bool, is_some}
 use Rattle.std.specs.Option.{unwrap_or}
 use Rattle.cef_core.specs.declared.job.Job.{Job}
 use Rattle.cef_core.specs.declared.phase.ParamAt.{ParamAt}

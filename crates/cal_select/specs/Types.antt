@@ -3,7 +3,6 @@ use Rattle.std.specs.Prelude.{ℕ, List, [], ◌∷◌, filter, map, codes, Bool
 use Rattle.std.specs.List.{list_any}
 use Rattle.std.specs.Option.{option_or}
 use Rattle.cal_scan.specs.Names.{same_name}
-use Rattle.cal_dec.specs.declared.dec.Dec.{Dec}
 use Rattle.cef_core.specs.declared.phase.MagneticAt.{MagneticAt}
 use Rattle.tdb_read.specs.declared.type_definition.TypeText.{TypeText}
 use Rattle.tdb_read.specs.declared.type_definition.TypeKind.{TypeKind}

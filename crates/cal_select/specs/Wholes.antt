@@ -1,5 +1,5 @@
 -- Numbers of a database as whole numbers.
-use Rattle.std.specs.Prelude.{◌≡◌, ℕ, suc, ◌+◌, ◌*◌, ◌/◌, ◌%◌, ◌^◌, nat_le, nat_lt, min, List, [], ◌∷◌, map, sum, Bool, true, false, not, ◌&&◌, Option, Some, None, is_some, if◌then◌else◌, ◌==◌, ℤ, pos, negsuc, unsigned_abs, int_lt}
+use Rattle.std.specs.Prelude.{ℕ, suc, ◌+◌, ◌*◌, ◌/◌, ◌%◌, ◌^◌, nat_le, min, List, map, Bool, ◌&&◌, Option, Some, None, is_some, if◌then◌else◌, ◌==◌, ℤ, pos, negsuc, unsigned_abs, int_lt}
 use Rattle.std.specs.List.{list_all, find, range_with_len}
 use Rattle.std.specs.Option.{unwrap_or, option_map}
 use Rattle.cal_limits.specs.declared.TheConstants.{MOST_RATIO_DECIMALS, MOST_RATIOS}

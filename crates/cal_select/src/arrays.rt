@@ -4,7 +4,9 @@ ghost use Rattle.std.specs.Prelude.{◌≡◌, ◌<◌, ◌≤◌, ◌^◌, ◌=
 ghost use Rattle.std.specs.List.{AllByRecursion};
 ghost use Rattle.tdb_read.specs.Database.{same_key};
 ghost use Rattle.cal_select.specs.Parameters as spec;
+ghost use Rattle.cal_select.specs.Measures.{StandAt};
 
+use crate::groups::{Group, parameter_of};
 use crate::kept::small_place;
 use crate::parameters::interactions;
 use cal_list::Items;
@@ -46,16 +48,19 @@ pub(crate) fn array_at(
 fn is_of_order(key: &Key, order: u8, other: &Key) -> bool
     ensures { result ≡ same_key (spec.of_order key.now order) other.now }
 {
-    key.kind_name == other.kind_name
-        && (key.phase == other.phase && (key.array == other.array && order == other.order))
+    order == other.order
+        && (key.kind_name == other.kind_name
+            && (key.phase == other.phase && key.array == other.array))
 }
 
-/// Whether the database has the parameter with another order.
-fn has_order(db: &Db, key: &Key, order: u8) -> bool
+/// Whether the database has the parameter of the phase with another order.
+fn has_order(db: &Db, group: &Group, key: &Key, order: u8) -> bool
+    requires places { StandAt db.now group.now.phase.now group.now.places.now }
+    requires phase { key.now.phase ≡ group.now.phase.now }
     ensures { result ≡ spec.has_order db.now key.now order }
 {
-    'places: for place in 0..db.parameter_count() {
-        let (other, _) = db.parameter_at(place);
+    'numbers: for number in 0..group.places.len() {
+        let (other, _) = parameter_of(db, group, number);
         if is_of_order(key, order, other) {
             return true;
         }
@@ -72,13 +77,20 @@ fn is_ternary(lengths: &[usize]) -> bool
     }
 }
 
-/// Whether a ternary interaction is weighted by composition.
-pub(crate) fn is_weighted(alloc: Global, db: &Db, key: &Key) -> Result<bool, AllocError>
+/// Whether a ternary interaction of the phase is weighted by composition.
+pub(crate) fn is_weighted(
+    alloc: Global,
+    db: &Db,
+    group: &Group,
+    key: &Key,
+) -> Result<bool, AllocError>
+    requires places { StandAt db.now group.now.phase.now group.now.places.now }
+    requires phase { key.now.phase ≡ group.now.phase.now }
     ensures { IfOk result (λ b. b ≡ spec.is_weighted db.now key.now) }
 {
     let lengths = interactions(alloc, &key.array)?;
     if !is_ternary(lengths.as_slice()) {
         return Ok(false);
     }
-    Ok(has_order(db, key, 1) || has_order(db, key, 2))
+    Ok(has_order(db, group, key, 1) || has_order(db, group, key, 2))
 }

@@ -5,6 +5,7 @@ mod arrays;
 mod building;
 mod chosen;
 mod fault;
+mod groups;
 mod kept;
 mod limits;
 mod names;

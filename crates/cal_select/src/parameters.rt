@@ -57,17 +57,11 @@ fn has_effect(magnetic: bool, kind: Kind) -> bool
     }
 }
 
-/// Whether the phase of this name and with these kept constituents needs the parameter, and it has an effect.
-pub(crate) fn is_needed_by(
-    name: &Name,
-    magnetic: bool,
-    kept: &[Items<Name>],
-    key: &Key,
-    text: &ParamText,
-) -> bool
-    ensures { result ≡ (spec.is_of name.now (key.now, text.now) && spec.counts magnetic kept.now (key.now, text.now)) }
+/// Whether a phase with these kept constituents needs a parameter of its name, and it has an effect.
+pub(crate) fn counts(magnetic: bool, kept: &[Items<Name>], key: &Key, text: &ParamText) -> bool
+    ensures { result ≡ spec.counts magnetic kept.now (key.now, text.now) }
 {
-    &key.phase == name && (has_effect(magnetic, text.kind) && is_needed(kept, &key.array))
+    has_effect(magnetic, text.kind) && is_needed(kept, &key.array)
 }
 
 fn is_other(kind: Kind) -> bool

@@ -8,6 +8,7 @@ ghost use Rattle.cal_select.specs.Causes.{Answers};
 use crate::building::{Source, phases};
 use crate::chosen::components;
 use crate::fault::SystemFault;
+use crate::groups::grouped;
 use crate::limits::limited;
 use crate::names::known_names;
 use crate::phases::allowed_choice;
@@ -32,11 +33,13 @@ fn chosen_system(alloc: Global, db: &Db, logs: &Logs, job: &Job) -> Result<Syste
     if let Err(fault) = allowed_choice(alloc, db, components, &job.phases) {
         return Err(fault);
     }
+    let groups = grouped(alloc, db)?;
     let source = Source {
         db,
         logs,
         job,
         components,
+        groups: &groups,
     };
     match phases(alloc, &source) {
         Err(fault) => Err(fault),

@@ -2,8 +2,10 @@
 
 ghost use Rattle.std.specs.Prelude.{◌≡◌, ◌≤◌, ◌<◌, ◌^◌, IfOk, ℤ, pos, ◌*ℤ◌, unsigned_abs};
 ghost use Rattle.tdb_expr.specs.Forms.{IsRanged};
+ghost use Rattle.temp_fun.specs.Keeping.{IsKept};
 ghost use Rattle.cal_select.specs.Valuations.{Valuation, AreOutcomes};
 ghost use Rattle.cal_select.specs.Causes.{Gives, refusal_of, value_causes};
+ghost use Rattle.cal_select.specs.Measures.{made_in};
 ghost use Rattle.cal_select.specs.Parameters.{nano_of, micro_of as micro_at, scale_for as scale_of_kind};
 
 use crate::fault::SystemFault;
@@ -13,7 +15,14 @@ use cef_core::Kind;
 use std::alloc::Global;
 use tdb_expr::Ranged;
 use tdb_read::Db;
-use temp_fun::{EvalFault, one_outcome, value};
+use temp_fun::{EvalFault, Kept, Valued, one_outcome, value_with};
+
+/// What was made, and the functions that are known then.
+#[derive(Drop)]
+pub(crate) struct Made<T> {
+    pub value: T,
+    pub known: Kept,
+}
 
 fn refusal(fault: EvalFault) -> SystemFault
     ensures { result ≡ refusal_of fault }
@@ -27,25 +36,28 @@ fn refusal(fault: EvalFault) -> SystemFault
     }
 }
 
-/// The value of a ranged text of the database at the temperature, in nano.
+/// The value of a ranged text of the database at the temperature, in nano. A function that is known is not read again.
 pub(crate) fn nano(
     alloc: Global,
     db: &Db,
     logs: &Logs,
     ranged: &Ranged,
     t: u32,
-) -> Result<i128, SystemFault>
+    known: Kept,
+) -> Result<Made<i128>, SystemFault>
     requires ranged { IsRanged ranged.now }
     requires coldest { 100 ≤ t }
     requires hottest { t ≤ HIGHEST_TEMPERATURE }
     requires logs { HIGHEST_TEMPERATURE ≤ logs.now }
-    ensures gives { (outcome : Valuation) → AreOutcomes db.now.functions t outcome → Gives result (value_causes (outcome ranged.now)) (nano_of (outcome ranged.now)) }
-    ensures small { IfOk result (λ v. unsigned_abs v ≤ 10 ^ 27) }
+    requires known { IsKept db.now.functions t known }
+    ensures gives { (outcome : Valuation) → AreOutcomes db.now.functions t outcome → Gives (made_in result) (value_causes (outcome ranged.now)) (nano_of (outcome ranged.now)) }
+    ensures small { IfOk result (λ made. unsigned_abs made.value ≤ 10 ^ 27) }
+    ensures known { IfOk result (λ made. IsKept db.now.functions t made.known) }
 {
     one_outcome();
-    match value(alloc, db.functions(), logs, ranged, t) {
+    match value_with(alloc, db.functions(), logs, ranged, t, known) {
         Err(fault) => Err(refusal(fault)),
-        Ok(nano) => Ok(nano),
+        Ok(Valued { value, kept }) => Ok(Made { value, known: kept }),
     }
 }
 

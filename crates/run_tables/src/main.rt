@@ -1,6 +1,7 @@
 //! Runs over databases in memory. A row says what it shows; behind its first `~` are the name of a text and behind each `|` a line that
 //! stands in it at a place or at its end; behind its second are the words. What is printed is what the row shows, the status and the
-//! text of the run, in which `/` is a line feed; in a row it is `^`.
+//! text of the run, in which `/` is a line feed; in a row it is `^`. Where parts of the text follow behind a third `~`, with `|` between
+//! them, it is printed of each whether the text has it, in place of the text.
 #![tactic(auto)]
 
 mod texts;
@@ -64,7 +65,19 @@ fn marked(alloc: Global, bytes: &[u8]) -> Result<String, AllocError> {
     String::from_utf8_lossy(alloc, marked.as_slice())
 }
 
-/// What a row shows, with the status and the text of its run.
+/// Of each part, whether the text has it.
+fn parts_in(alloc: Global, text: &str, parts: &str) -> Result<String, AllocError> {
+    let mut found = String::new(alloc);
+    for part in parts.split('|') {
+        if !found.is_empty() {
+            found.push(' ')?;
+        }
+        found.push_str(if text.contains(part) { "has" } else { "lacks" })?;
+    }
+    Ok(found)
+}
+
+/// What a row shows, with the status and the text of its run, or which parts the text has.
 fn answer(alloc: Global, row: &str) -> Result<String, AllocError> {
     let mut parts = row.split('~');
     let shown = parts.next().unwrap_or("");
@@ -75,7 +88,13 @@ fn answer(alloc: Global, row: &str) -> Result<String, AllocError> {
     let mut out = MemorySink::new(alloc, 4096, 65536)?;
     let status = run(alloc, words.as_slice(), &mut files, &mut out).number();
     let text = marked(alloc, out.written())?;
-    format!(in alloc; "{shown}: {status} {text}")
+    match parts.next() {
+        None => format!(in alloc; "{shown}: {status} {text}"),
+        Some(wanted) => {
+            let found = parts_in(alloc, text.as_str(), wanted)?;
+            format!(in alloc; "{shown}: {status} {found}")
+        }
+    }
 }
 
 fn main(rt: HostRuntime) -> io::Result<()> {

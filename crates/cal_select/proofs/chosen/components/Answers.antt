@@ -1,4 +1,4 @@
-use Rattle.std.proofs.Common.{◌≡◌, ◌++◌, ◌∷◌, [], ◌≤◌, length, arith, sym, ap, ◌∙◌, true, false, map, List, ℕ, take}
+use Rattle.std.proofs.Common.{◌≡◌, ◌++◌, ◌∷◌, [], ◌≤◌, length, arith, sym, ap, ◌∙◌, map, List, ℕ, take}
 use Rattle.std.specs.Prelude.{filter}
 use Rattle.std.proofs.lemmas.List.{take_all}
 use Rattle.cal_select.specs.Chosen.{is_in, Word}

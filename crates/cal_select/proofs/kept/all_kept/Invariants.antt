@@ -1,4 +1,4 @@
-use Rattle.std.proofs.Common.{◌≡◌, take, map, length, false, drop}
+use Rattle.std.proofs.Common.{◌≡◌, take}
 use Rattle.cal_select.specs.Chosen.{all_kept_of}
 use Rattle.cal_select.proofs.kept.all_kept.Given as goal
 

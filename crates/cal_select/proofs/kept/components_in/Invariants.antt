@@ -1,4 +1,4 @@
-use Rattle.std.proofs.Common.{◌≡◌, take, map, length, false, drop}
+use Rattle.std.proofs.Common.{◌≡◌, take, map}
 use Rattle.cal_select.specs.Chosen.{component_of}
 use Rattle.cal_select.proofs.kept.components_in.Given as goal
 

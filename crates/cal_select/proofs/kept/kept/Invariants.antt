@@ -1,4 +1,4 @@
-use Rattle.std.proofs.Common.{◌≡◌, take, map, length, false, drop}
+use Rattle.std.proofs.Common.{◌≡◌, take}
 use Rattle.cal_select.specs.Chosen.{kept_of}
 use Rattle.cal_select.proofs.kept.kept.Given as goal
 

@@ -1,4 +1,4 @@
-use Rattle.std.proofs.Common.{◌≡◌, take, map, length, false, drop}
+use Rattle.std.proofs.Common.{◌≡◌, take}
 use Rattle.cal_select.specs.Chosen.{sites_at}
 use Rattle.cal_select.proofs.kept.sites_at.Given as goal
 

@@ -1,4 +1,4 @@
-use Rattle.std.proofs.Common.{◌≡◌, ◌≤◌, take, map, length, false, [], min}
+use Rattle.std.proofs.Common.{◌≡◌, take, []}
 use Rattle.cal_select.specs.Causes.{energy_causes}
 use Rattle.cal_select.proofs.limits.allowed_energies.Given as goal
 

@@ -1,4 +1,4 @@
-use Rattle.std.proofs.Common.{◌≡◌, ◌≤◌, take, map, length, false, [], min}
+use Rattle.std.proofs.Common.{◌≡◌, take, map, length, min}
 use Rattle.std.specs.Prelude.{sum}
 use Rattle.cal_select.proofs.limits.constituents.Given as goal
 

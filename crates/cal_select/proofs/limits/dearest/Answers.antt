@@ -1,9 +1,5 @@
 use Rattle.std.proofs.Common.{◌≡◌, ◌∙◌, max, arith, refl, length}
-use Rattle.std.specs.Option.{unwrap_or}
 use Rattle.std.proofs.lemmas.Option.{slice_get_read}
-use Rattle.cal_limits.specs.declared.TheConstants.{MOST_ENERGY}
-use Rattle.cef_core.specs.declared.phase.PhaseAt.{PhaseAt}
-use Rattle.cef_core.specs.Capped.{within}
 use Rattle.cef_core.specs.Phases.{sigma}
 use Rattle.cal_select.proofs.Measured.{greatest-next, allowed_size}
 use Rattle.cal_select.proofs.limits.dearest.Goals as goal

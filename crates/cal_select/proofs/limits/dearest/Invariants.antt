@@ -1,4 +1,4 @@
-use Rattle.std.proofs.Common.{◌≡◌, ◌≤◌, take, map, length, false, [], min}
+use Rattle.std.proofs.Common.{◌≡◌, take}
 use Rattle.cef_core.specs.Systems.{dearest_of}
 use Rattle.cal_select.proofs.limits.dearest.Given as goal
 

@@ -1,4 +1,4 @@
-use Rattle.std.proofs.Common.{◌≡◌, ◌≤◌, take, map, length, false, [], min}
+use Rattle.std.proofs.Common.{◌≡◌, take, map}
 use Rattle.std.specs.Prelude.{sum}
 use Rattle.cef_core.specs.Systems.{greatest}
 use Rattle.cal_select.proofs.limits.greatest_ratios.Given as goal

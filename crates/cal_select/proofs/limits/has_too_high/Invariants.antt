@@ -1,4 +1,4 @@
-use Rattle.std.proofs.Common.{◌≡◌, ◌≤◌, take, map, length, false, [], min}
+use Rattle.std.proofs.Common.{◌≡◌, take, false}
 use Rattle.std.specs.List.{list_any}
 use Rattle.cal_select.specs.Causes.{is_too_high}
 use Rattle.cal_select.proofs.limits.has_too_high.Given as goal

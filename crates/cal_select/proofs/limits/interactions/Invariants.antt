@@ -1,4 +1,4 @@
-use Rattle.std.proofs.Common.{◌≡◌, ◌≤◌, take, map, length, false, [], min}
+use Rattle.std.proofs.Common.{◌≡◌, take, map, length}
 use Rattle.cef_core.specs.Parameters.{interacting}
 use Rattle.cal_select.proofs.limits.interactions.Given as goal
 

@@ -1,4 +1,4 @@
-use Rattle.std.proofs.Common.{◌≡◌, ◌∙◌, ◌+◌, ◌^◌, ◌*◌, ℕ, List, ap, sym, length, map, min}
+use Rattle.std.proofs.Common.{◌≡◌, ◌∙◌, ◌+◌, ◌^◌, ℕ, List, ap, length, map, min}
 use Rattle.std.specs.Prelude.{sum, nat_lt}
 use Rattle.cal_limits.specs.declared.TheConstants.{MOST_POWER}
 use Rattle.cef_core.specs.Parameters.{interacting}

@@ -1,4 +1,4 @@
-use Rattle.std.proofs.Common.{◌≡◌, ◌∙◌, ◌+◌, arith, refl, length, ap, Some, None}
+use Rattle.std.proofs.Common.{◌∙◌, arith, refl, length, ap}
 use Rattle.std.proofs.lemmas.Option.{slice_get_read}
 use Rattle.cal_limits.specs.declared.TheConstants.{MOST_LISTS}
 use Rattle.cef_core.specs.Capped.{within}

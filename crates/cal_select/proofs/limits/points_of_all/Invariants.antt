@@ -1,4 +1,4 @@
-use Rattle.std.proofs.Common.{◌≡◌, ◌≤◌, take, map, length, false, [], min}
+use Rattle.std.proofs.Common.{◌≡◌, ◌≤◌, take}
 use Rattle.cal_limits.specs.declared.TheConstants.{MOST_LISTS}
 use Rattle.cef_core.specs.Points.{points_in}
 use Rattle.cef_core.proofs.Adding.{total}

@@ -1,4 +1,4 @@
-use Rattle.std.proofs.Common.{◌≡◌, take, map, length, false, drop}
+use Rattle.std.proofs.Common.{length}
 use Rattle.cal_select.proofs.parameters.+are_kept_from.Given as goal
 
 abbrev pub decreases-are_kept_from : goal.decreases-are_kept_from

@@ -1,4 +1,4 @@
-use Rattle.std.proofs.Common.{◌≡◌, take, map, length, false, drop}
+use Rattle.std.proofs.Common.{length}
 use Rattle.cal_select.proofs.parameters.+has_twice.Given as goal
 
 abbrev pub decreases-has_twice : goal.decreases-has_twice

@@ -1,4 +1,4 @@
-use Rattle.std.proofs.Common.{◌≡◌, take, map, length, false, drop}
+use Rattle.std.proofs.Common.{◌≡◌, take, map, length}
 use Rattle.std.specs.Prelude.{filter, nat_lt}
 use Rattle.cal_select.proofs.parameters.interactions.Given as goal
 

@@ -1,4 +1,4 @@
-use Rattle.std.proofs.Common.{◌≡◌, ◌∙◌, sym}
+use Rattle.std.proofs.Common.{◌∙◌, sym}
 use Rattle.cal_select.specs.Parameters.{has_twice}
 use Rattle.cal_select.proofs.Any.{any-next, any-found}
 use Rattle.cal_select.proofs.parameters.some_has_twice.Goals as goal

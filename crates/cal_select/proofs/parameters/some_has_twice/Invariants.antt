@@ -1,4 +1,4 @@
-use Rattle.std.proofs.Common.{◌≡◌, take, map, length, false, drop}
+use Rattle.std.proofs.Common.{◌≡◌, take, false}
 use Rattle.std.specs.List.{list_any}
 use Rattle.cal_select.specs.Parameters.{has_twice}
 use Rattle.cal_select.proofs.parameters.some_has_twice.Given as goal

@@ -1,5 +1,5 @@
-use Rattle.std.proofs.Common.{◌≡◌, refl, sym, ◌∙◌, []}
-use Rattle.cal_select.specs.Chosen.{is_selected, PhaseEntry}
+use Rattle.std.proofs.Common.{refl, sym, ◌∙◌}
+use Rattle.cal_select.specs.Chosen.{is_selected}
 use Rattle.cal_select.specs.Causes.{cause_if, is_ionic}
 use Rattle.cal_select.specs.declared.fault.SystemFault.TheVariants as faults
 use Rattle.cal_select.proofs.Firsts.{kept-found, kept-on, kept-off}

@@ -1,4 +1,4 @@
-use Rattle.std.proofs.Common.{◌≡◌, sym, ◌∙◌, rules}
+use Rattle.std.proofs.Common.{sym, ◌∙◌, rules}
 use Rattle.cal_select.specs.Chosen.{is_selected}
 use Rattle.cal_select.specs.Causes.{cause_if, is_too_wide}
 use Rattle.cal_select.specs.declared.fault.SystemFault.TheVariants as faults

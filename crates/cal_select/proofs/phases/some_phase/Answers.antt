@@ -1,4 +1,4 @@
-use Rattle.std.proofs.Common.{◌≡◌, sym, ◌∙◌}
+use Rattle.std.proofs.Common.{sym, ◌∙◌}
 use Rattle.cal_select.specs.Chosen.{is_selected}
 use Rattle.cal_select.proofs.Kept_lists.{none-kept-on}
 use Rattle.cal_select.proofs.phases.some_phase.Goals as goal

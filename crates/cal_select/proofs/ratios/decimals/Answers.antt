@@ -1,4 +1,4 @@
-use Rattle.std.proofs.Common.{◌≡◌, ◌∙◌, arith, sym, ap, None, Option, ℕ}
+use Rattle.std.proofs.Common.{◌≡◌, ◌∙◌, arith, sym, ap, ℕ}
 use Rattle.std.specs.List.{find, list_all, range_with_len}
 use Rattle.cal_select.specs.Wholes.{is_whole_at, decimals_of}
 use Rattle.cal_select.proofs.Finding.{none-on, found-at}

@@ -1,8 +1,7 @@
-use Rattle.std.proofs.Common.{◌≡◌, ◌≢◌, ◌≤◌, ◌∙◌, ◌++◌, [], Some, sym, ap, subst, arith, length, List, rules}
+use Rattle.std.proofs.Common.{◌≡◌, ◌∙◌, ◌++◌, [], Some, sym, ap, subst, arith, length, List}
 use Rattle.std.specs.Prelude.{filter}
 use Rattle.std.specs.Map.{keys_of}
 use Rattle.cef_core.specs.declared.phase.PhaseAt.{PhaseAt}
-use Rattle.cal_select.specs.declared.fault.SystemFault.{SystemFault}
 use Rattle.cal_select.specs.Chosen.{Word, is_in, is_selected, components_of, selected}
 use Rattle.cal_select.specs.Selection.{phases_at, system_with, system_of}
 use Rattle.cal_select.specs.Causes.{first, name_causes, choice_causes, all_phase_causes, limit_causes, causes, no_phase, ionic, too_wide}
@@ -18,6 +17,9 @@ phases-requires-clause-narrow c =
     let chosen = filter (is_selected c.as_slice-components.result.now c.args.job.now.phases) c.args.db.now.phases in
     back_none (ionic chosen) (too_wide chosen) (back_none (no_phase chosen) (ionic chosen ++ too_wide chosen) c.in_default-allowed_choice.ensures)
 
+pub phases-requires-clause-groups : goal.phases-requires-clause-groups
+phases-requires-clause-groups c = c.in_ok-groups.ensures
+
 pub returns-in-Err-allowed_choice : goal.returns-in-Err-allowed_choice
 returns-in-Err-allowed_choice c = λ outcome are apart.
     let db = c.args.db.now in
@@ -27,6 +29,17 @@ returns-in-Err-allowed_choice c = λ outcome are apart.
     let told = subst (λ (names : List Word). first (choice_causes (filter (is_selected names job.phases) db.phases)) ≡ Some c.in-Err-allowed_choice.fault) e (c.in-Err-allowed_choice.ensures apart) in
     told_second (name_causes db job) (choice_causes (selected db job)) (all_phase_causes outcome db (components_of db job) (selected db job)) (limit_causes (system_of outcome db job)) c.in-Err-allowed_choice.fault
     c.in_default.ensures told
+
+pub returns-in-Err-phases : goal.returns-in-Err-phases
+returns-in-Err-phases c = λ outcome are apart.
+    let db = c.args.db.now in
+    let job = c.args.job.now in
+    let e : c.as_slice-components.result.now ≡ components_of db job =
+    c.as_slice-components.ensures ∙ (c.in_ok-elements.ensures.value ∙ ap (λ (asked : List Word). filter (is_in asked) (keys_of db.elements)) c.as_slice.ensures) in
+    let none_chosen : choice_causes (selected db job) ≡ [] = subst (λ (names : List Word). choice_causes (filter (is_selected names job.phases) db.phases) ≡ []) e c.in_default-allowed_choice.ensures in
+    let told = subst (λ (names : List Word). first (all_phase_causes outcome db names (filter (is_selected names job.phases) db.phases)) ≡ Some c.in-Err-phases.fault) e (c.in-Err-phases.ensures.gives outcome are apart) in
+    told_third (name_causes db job) (choice_causes (selected db job)) (all_phase_causes outcome db (components_of db job) (selected db job)) (limit_causes (system_of outcome db job)) c.in-Err-phases.fault
+    c.in_default.ensures none_chosen told
 
 pub returns-in-Ok : goal.returns-in-Ok
 returns-in-Ok c = λ outcome are.

@@ -1,4 +1,4 @@
-use Rattle.std.proofs.Common.{◌≡◌, ◌∙◌, arith, refl, length}
+use Rattle.std.proofs.Common.{◌∙◌, arith, refl, length}
 use Rattle.std.proofs.lemmas.Option.{slice_get_read}
 use Rattle.cal_select.proofs.Finding.{later-next}
 use Rattle.cal_select.proofs.types.magnetic.Goals as goal
