@@ -1,6 +1,6 @@
 -- What a fine phase says of its parameters.
-use Rattle.std.proofs.Common.{◌≡◌, ℕ, zero, suc, ◌+◌, ◌*◌, ◌^◌, ◌<◌, ◌≤◌, List, [], ◌∷◌, ◌++◌, length, map, refl, arith, ap, sym, ◌∙◌, slice_index, Bool, true, false, Some, slice_get, slice_index_or, cond}
-use Rattle.std.specs.Prelude.{ℤ, unsigned_abs, sum, ◌||◌, ◌==◌}
+use Rattle.std.proofs.Common.{◌≡◌, ℕ, zero, suc, ◌+◌, ◌*◌, ◌^◌, ◌<◌, ◌≤◌, List, [], ◌∷◌, length, map, refl, arith, ap, sym, Bool, true, false, Some, slice_get, slice_index_or}
+use Rattle.std.specs.Prelude.{unsigned_abs, sum, ◌||◌, ◌==◌}
 use Rattle.std.specs.List.{concat, AllByRecursion, list_any}
 use Rattle.std.proofs.lemmas.Nat.{mul-le, pow-add}
 use Rattle.std.proofs.lemmas.Bool.{eqb-true}
@@ -13,15 +13,16 @@ use Rattle.cef_core.specs.declared.phase.PhaseAt.{PhaseAt}
 use Rattle.cef_core.specs.Shapes.{shape}
 use Rattle.cef_core.specs.Energies.{is_energy, is_curie, is_moment}
 use Rattle.cef_core.specs.Lattices.{is_lattice}
-use Rattle.cef_core.specs.Phases.{IsFine, IsPhase, IsParameter, magnitudes, degree, factor_degree, ArePlaces}
+use Rattle.cef_core.specs.Phases.{IsFine, IsParameter, magnitudes, degree, factor_degree}
 use Rattle.cef_core.specs.Parameters.{interacting}
 use Rattle.cef_term.specs.declared.form.Form.{Form}
-use Rattle.cef_term.specs.declared.form.Form.TheVariants.{Plain, Binary, Ternary}
+use Rattle.cef_term.specs.declared.form.Form.TheVariants.{Binary, Ternary}
 use Rattle.cef_term.specs.declared.share.Share.{Share}
-use Rattle.cef_term.specs.Kept.{placed, form_of, factor_most, sites_of, IsKept, IsShare, den, micro_of}
+use Rattle.cef_term.specs.Kept.{form_of, factor_most, IsKept, IsShare, den, micro_of}
 use Rattle.cef_term.proofs.Laws.{IsGiven, places_of, form_in, value_by_places, low_by_places, high_by_places, value_between, values_same}
 use Rattle.cef_term.proofs.Linked.{linked}
 use Rattle.cef_term.proofs.Orders.{order_placed, degree_placed}
+use Rattle.cef_term.proofs.Smallness.{interacting_within, form_small}
 use Rattle.cef_term.proofs.Picking.{placed_lengths, placed_below, concat_below, below_at, AreBelow, interacting_all}
 
 pub got : (ps : List ParamAt) (k : ℕ) (p : ParamAt) → k < length ps → p ≡ slice_index_or ps k p → slice_get ps k ≡ Some p
@@ -98,7 +99,8 @@ parts_of_ternary n a b c m o i j e = (cc, cc, cc, cc)
 
 binary_below : (n s v : ℕ) (w : Bool) (lists : List (List ℕ)) → AllByRecursion (AreBelow s) lists → (i j u : ℕ) → form_of n v w lists ≡ Binary i j u → (i < s) × (j < s)
 binary_below n s v w [] h i j u e = absurd cc
-binary_below n s v w ((a ∷ b ∷ []) ∷ []) h i j u e = let both = parts_of_binary a b v i j u e in (rw (← both.0) h.0.0, rw (← both.1) h.0.1.0)
+binary_below n s zero w ((a ∷ b ∷ []) ∷ []) h i j u e = absurd cc
+binary_below n s (suc v) w ((a ∷ b ∷ []) ∷ []) h i j u e = let both = parts_of_binary a b (suc v) i j u e in (rw (← both.0) h.0.0, rw (← both.1) h.0.1.0)
 binary_below n s zero true ((a ∷ b ∷ c ∷ []) ∷ []) h i j u e = absurd cc
 binary_below n s zero false ((a ∷ b ∷ c ∷ []) ∷ []) h i j u e = absurd cc
 binary_below n s (suc zero) true ((a ∷ b ∷ c ∷ []) ∷ []) h i j u e = absurd cc
@@ -131,7 +133,8 @@ binary_below n s (suc (suc v)) false ((a ∷ b ∷ c ∷ d ∷ more) ∷ m ∷ r
 
 ternary_below : (n s v : ℕ) (w : Bool) (lists : List (List ℕ)) → AllByRecursion (AreBelow s) lists → (m o i j : ℕ) → form_of n v w lists ≡ Ternary m o i j → (o < s) × (i < s) × (j < s) × (m ≡ n)
 ternary_below n s v w [] h m o i j e = absurd cc
-ternary_below n s v w ((a ∷ b ∷ []) ∷ []) h m o i j e = absurd cc
+ternary_below n s zero w ((a ∷ b ∷ []) ∷ []) h m o i j e = absurd cc
+ternary_below n s (suc v) w ((a ∷ b ∷ []) ∷ []) h m o i j e = absurd cc
 ternary_below n s zero true ((a ∷ b ∷ c ∷ []) ∷ []) h m o i j e = let all = parts_of_ternary n a b c m o i j e in (rw (← all.1) h.0.0, rw (← all.2) h.0.1.0, rw (← all.3) h.0.1.1.0, sym all.0)
 ternary_below n s zero false ((a ∷ b ∷ c ∷ []) ∷ []) h m o i j e = absurd cc
 ternary_below n s (suc zero) true ((a ∷ b ∷ c ∷ []) ∷ []) h m o i j e = let all = parts_of_ternary n b a c m o i j e in (rw (← all.1) h.0.1.0, rw (← all.2) h.0.0, rw (← all.3) h.0.1.1.0, sym all.0)
@@ -173,6 +176,8 @@ kept phase k p ps form share fine e pe fe keeps micro d =
     let flat : AreBelow (sum (shape phase.sites)) (concat (places_of (shape phase.sites) p)) = concat_below (sum (shape phase.sites)) (places_of (shape phase.sites) p) all in
     let mixed = interacting_all (AreBelow (sum (shape phase.sites))) (places_of (shape phase.sites) p) all in
     let den_is : den share ≡ phase.lattice ^ length (concat (places_of (shape phase.sites) p)) * factor_most phase.lattice (form_in phase.lattice (shape phase.sites) p) = rw (pe, fe) at d in
+    let order = order_placed p.order p.weighted (shape phase.sites) p.array is.places is.order in
+    let small : factor_most phase.lattice (form_in phase.lattice (shape phase.sites) p) ≤ 2 ^ 62 = form_small phase.lattice p.order p.weighted (interacting (places_of (shape phase.sites) p)) (length (concat (places_of (shape phase.sites) p))) g.some order (interacting_within (places_of (shape phase.sites) p)) (omega (arith, den_is, keeps.den_high)) in
     rw (pe, fe) (record {
       some = g.some;
       places_in = below_at (sum (shape phase.sites)) (concat (places_of (shape phase.sites) p)) flat;
@@ -181,6 +186,7 @@ kept phase k p ps form share fine e pe fe keeps micro d =
       share_keeps = keeps;
       micro_is = micro;
       den_is = den_is;
+      factor_small = small;
       value_is = λ site fits. value_by_places phase.lattice (shape phase.sites) p site (den share) g fits.widths den_is;
       low_is = λ box fits. low_by_places phase.lattice (shape phase.sites) p box (den share) g fits.widths den_is;
       high_is = λ box fits. high_by_places phase.lattice (shape phase.sites) p box (den share) g fits.widths den_is;

@@ -1,22 +1,23 @@
 -- What a term of a parameter gives for the sites and boxes of its phase.
-use Rattle.std.proofs.Common.{◌≡◌, ℕ, zero, suc, ◌+◌, ◌*◌, ◌^◌, ◌<◌, ◌≤◌, List, [], ◌∷◌, ◌++◌, length, map, refl, arith, ap, sym, ◌∙◌, slice_index}
-use Rattle.std.specs.Prelude.{ℤ, pos, negsuc, ◌≤ℤ◌, ◌<ℤ◌, unsigned_abs, sum}
+use Rattle.std.proofs.Common.{◌≡◌, ℕ, zero, suc, ◌*◌, ◌^◌, ◌<◌, ◌≤◌, List, [], ◌∷◌, ◌++◌, length, map, refl, arith, ap, ◌∙◌}
+use Rattle.std.specs.Prelude.{unsigned_abs, sum}
 use Rattle.std.specs.List.{concat, AllByRecursion}
-use Rattle.std.proofs.lemmas.Int.{ints}
+use Rattle.std.proofs.lemmas.Nat.{mul-le}
 use Rattle.std.proofs.lemmas.List.{length-append}
 use Rattle.cef_core.specs.declared.phase.ParamAt.{ParamAt}
 use Rattle.cef_core.specs.declared.phase.PhaseAt.{PhaseAt}
 use Rattle.cef_box.specs.declared.range.Range.{Range}
-use Rattle.cef_core.specs.Shapes.{shape, places}
+use Rattle.cef_core.specs.Shapes.{shape}
 use Rattle.cef_box.specs.Boxes.{lows_of, highs_of, IsRange}
 use Rattle.cef_box.specs.Terms.{FitsSite, FitsBox, shape_of_phase}
 use Rattle.cef_term.specs.declared.form.Form.{Form}
 use Rattle.cef_term.specs.declared.form.Form.TheVariants.{Plain, Binary, Ternary}
 use Rattle.cef_term.specs.declared.share.Share.{Share}
-use Rattle.cef_term.specs.Kept.{count_at, factor_most, value_q_at, least_q_at, greatest_q_at, sites_of, den, IsFormIn, HasRoom, IsKept, IsShare}
+use Rattle.cef_term.specs.Kept.{count_at, product_at, factor_at, least_factor_at, greatest_factor_at, factor_most, counts_for, sites_of, den, IsFormIn, AreCounts, HasFactor, HasProduct, IsKept}
 use Rattle.cef_term.proofs.Picking.{sum-cons}
 use Rattle.cef_term.proofs.Laws.{lows_shape, highs_shape}
-use Rattle.cef_term.proofs.Rooms.{room_of, products_size, IsFormOf, value_q-size, least_q-size, greatest_q-size, AreProducts}
+use Rattle.cef_term.proofs.Choosing.{size_chosen}
+use Rattle.cef_term.proofs.Rooms.{products_size, IsFormOf, factor_most-low, AreProducts}
 
 row_small : (n : ℕ) (counts rest : List ℕ) → AllByRecursion (λ k. k ≤ n) counts → ((k : ℕ) → count_at rest k ≤ n) → (k : ℕ) → count_at (counts ++ rest) k ≤ n
 row_small n [] rest h r k = r k
@@ -52,21 +53,29 @@ form_is_in n sites size Plain e b t = tt
 form_is_in n sites size (Binary i j v) e b t = let both = b i j v refl in (omega (arith, both.0), omega (arith, both.1))
 form_is_in n sites size (Ternary m o i j) e b t = let all = t m o i j refl in (omega (arith, all.0), omega (arith, all.1), omega (arith, all.2), all.3)
 
-kept_room : (phase : PhaseAt) (p : ParamAt) (ps : List ℕ) (form : Form) (share : Share) (low high : List (List ℕ)) → IsKept phase p ps form share → FitsSite (shape_of_phase phase) low → FitsSite (shape_of_phase phase) high → HasRoom (concat low) (concat high) ps form
-kept_room phase p ps form share low high kept a b =
-    let l : length (concat low) ≡ sites_of phase = site_length low ∙ ap sum a.widths in
-    let h : length (concat high) ≡ sites_of phase = site_length high ∙ ap sum b.widths in
-    record {
-      n = phase.lattice;
-      some = kept.some;
-      low_small = site_small phase.lattice low a.counts;
-      high_small = site_small phase.lattice high b.counts;
-      low_in = λ k lt. omega (arith, l, kept.places_in k lt);
-      high_in = λ k lt. omega (arith, h, kept.places_in k lt);
-      low_form = form_is_in phase.lattice (sites_of phase) (length (concat low)) form l kept.binary_in kept.ternary_in;
-      high_form = form_is_in phase.lattice (sites_of phase) (length (concat high)) form h kept.binary_in kept.ternary_in;
-      room = omega (arith, kept.den_is, kept.share_keeps.den_high);
-    }
+-- for counts of the phase the factor and the product have room
+pub has_factor : (phase : PhaseAt) (p : ParamAt) (ps : List ℕ) (form : Form) (share : Share) (low high : List ℕ) → IsKept phase p ps form share → AreCounts phase.lattice (sites_of phase) low → AreCounts phase.lattice (sites_of phase) high → HasFactor form low high
+has_factor phase p ps form share low high kept l h = record {
+  n = phase.lattice;
+  some = kept.some;
+  low_small = l.small;
+  high_small = h.small;
+  low_form = form_is_in phase.lattice (sites_of phase) (length low) form l.size kept.binary_in kept.ternary_in;
+  high_form = form_is_in phase.lattice (sites_of phase) (length high) form h.size kept.binary_in kept.ternary_in;
+  room = kept.factor_small;
+}
+
+pub has_product : (phase : PhaseAt) (p : ParamAt) (ps : List ℕ) (form : Form) (share : Share) (counts : List ℕ) → IsKept phase p ps form share → AreCounts phase.lattice (sites_of phase) counts → HasProduct (den share) counts ps
+has_product phase p ps form share counts kept c = record {
+  n = phase.lattice;
+  some = kept.some;
+  small = c.small;
+  inside = λ k lt. omega (arith, c.size, kept.places_in k lt);
+  room = omega (arith, kept.den_is, mul-le (phase.lattice ^ length ps) 1 (phase.lattice ^ length ps) (factor_most phase.lattice form) (omega arith) (factor_most-low phase.lattice form kept.some));
+}
+
+pub site_counts : (phase : PhaseAt) (site : List (List ℕ)) → FitsSite (shape_of_phase phase) site → AreCounts phase.lattice (sites_of phase) (concat site)
+site_counts phase site fits = record { size = site_length site ∙ ap sum fits.widths; small = site_small phase.lattice site fits.counts }
 
 pub lows_fit : (phase : PhaseAt) (box : List (List Range)) → FitsBox (shape_of_phase phase) box → FitsSite (shape_of_phase phase) (lows_of box)
 lows_fit phase box fits = record { widths = lows_shape box ∙ fits.widths; counts = lows_small phase.lattice box fits.ranges }
@@ -74,26 +83,31 @@ lows_fit phase box fits = record { widths = lows_shape box ∙ fits.widths; coun
 pub highs_fit : (phase : PhaseAt) (box : List (List Range)) → FitsBox (shape_of_phase phase) box → FitsSite (shape_of_phase phase) (highs_of box)
 highs_fit phase box fits = record { widths = highs_shape box ∙ fits.widths; counts = highs_small phase.lattice box fits.ranges }
 
-pub site_room : (phase : PhaseAt) (p : ParamAt) (ps : List ℕ) (form : Form) (share : Share) (site : List (List ℕ)) → IsKept phase p ps form share → FitsSite (shape_of_phase phase) site → HasRoom (concat site) (concat site) ps form
-site_room phase p ps form share site kept fits = kept_room phase p ps form share site site kept fits fits
+pub low_counts : (phase : PhaseAt) (box : List (List Range)) → FitsBox (shape_of_phase phase) box → AreCounts phase.lattice (sites_of phase) (concat (lows_of box))
+low_counts phase box fits = site_counts phase (lows_of box) (lows_fit phase box fits)
 
-pub box_room : (phase : PhaseAt) (p : ParamAt) (ps : List ℕ) (form : Form) (share : Share) (box : List (List Range)) → IsKept phase p ps form share → FitsBox (shape_of_phase phase) box → HasRoom (concat (lows_of box)) (concat (highs_of box)) ps form
-box_room phase p ps form share box kept fits = kept_room phase p ps form share (lows_of box) (highs_of box) kept (lows_fit phase box fits) (highs_fit phase box fits)
+pub high_counts : (phase : PhaseAt) (box : List (List Range)) → FitsBox (shape_of_phase phase) box → AreCounts phase.lattice (sites_of phase) (concat (highs_of box))
+high_counts phase box fits = site_counts phase (highs_of box) (highs_fit phase box fits)
 
 form_kept : (n sites : ℕ) (form : Form) → ((m o i j : ℕ) → form ≡ Ternary m o i j → (o < sites) × (i < sites) × (j < sites) × (m ≡ n)) → IsFormOf n form
 form_kept n sites Plain t = tt
 form_kept n sites (Binary i j v) t = tt
 form_kept n sites (Ternary m o i j) t = (t m o i j refl).3
 
-products : (phase : PhaseAt) (p : ParamAt) (ps : List ℕ) (form : Form) (share : Share) (low high : List (List ℕ)) → IsKept phase p ps form share → FitsSite (shape_of_phase phase) low → FitsSite (shape_of_phase phase) high → AreProducts phase.lattice ps form (concat low) (concat high)
-products phase p ps form share low high kept a b =
-    products_size phase.lattice ps form (concat low) (concat high) (form_kept phase.lattice (sites_of phase) form kept.ternary_in) (site_small phase.lattice low a.counts) (site_small phase.lattice high b.counts)
+products : (phase : PhaseAt) (p : ParamAt) (ps : List ℕ) (form : Form) (share : Share) (low high : List ℕ) → IsKept phase p ps form share → AreCounts phase.lattice (sites_of phase) low → AreCounts phase.lattice (sites_of phase) high → AreProducts phase.lattice ps form low high
+products phase p ps form share low high kept l h = products_size phase.lattice ps form low high (form_kept phase.lattice (sites_of phase) form kept.ternary_in) l.small h.small
 
-pub site_q : (phase : PhaseAt) (p : ParamAt) (ps : List ℕ) (form : Form) (share : Share) (site : List (List ℕ)) → IsKept phase p ps form share → FitsSite (shape_of_phase phase) site → unsigned_abs (value_q_at ps form (concat site)) ≤ den share
-site_q phase p ps form share site kept fits = omega (arith, kept.den_is, value_q-size phase.lattice ps form (concat site) (concat site) (products phase p ps form share site site kept fits fits))
+pub value_room : (phase : PhaseAt) (p : ParamAt) (ps : List ℕ) (form : Form) (share : Share) (counts : List ℕ) → IsKept phase p ps form share → AreCounts phase.lattice (sites_of phase) counts → product_at counts ps * unsigned_abs (factor_at form counts) ≤ den share
+value_room phase p ps form share counts kept c = omega (arith, kept.den_is, (products phase p ps form share counts counts kept c c).value)
 
-pub least_box_q : (phase : PhaseAt) (p : ParamAt) (ps : List ℕ) (form : Form) (share : Share) (box : List (List Range)) → IsKept phase p ps form share → FitsBox (shape_of_phase phase) box → unsigned_abs (least_q_at ps form (concat (lows_of box)) (concat (highs_of box))) ≤ den share
-least_box_q phase p ps form share box kept fits = omega (arith, kept.den_is, least_q-size phase.lattice ps form (concat (lows_of box)) (concat (highs_of box)) (products phase p ps form share (lows_of box) (highs_of box) kept (lows_fit phase box fits) (highs_fit phase box fits)))
+pub least_room : (phase : PhaseAt) (p : ParamAt) (ps : List ℕ) (form : Form) (share : Share) (low high : List ℕ) → IsKept phase p ps form share → AreCounts phase.lattice (sites_of phase) low → AreCounts phase.lattice (sites_of phase) high →
+    product_at (counts_for (least_factor_at form low high) low high) ps * unsigned_abs (least_factor_at form low high) ≤ den share
+least_room phase p ps form share low high kept l h =
+    let are = products phase p ps form share low high kept l h in
+    omega (arith, kept.den_is, size_chosen (least_factor_at form low high) low high ps _ are.low_least are.high_least)
 
-pub greatest_box_q : (phase : PhaseAt) (p : ParamAt) (ps : List ℕ) (form : Form) (share : Share) (box : List (List Range)) → IsKept phase p ps form share → FitsBox (shape_of_phase phase) box → unsigned_abs (greatest_q_at ps form (concat (lows_of box)) (concat (highs_of box))) ≤ den share
-greatest_box_q phase p ps form share box kept fits = omega (arith, kept.den_is, greatest_q-size phase.lattice ps form (concat (lows_of box)) (concat (highs_of box)) (products phase p ps form share (lows_of box) (highs_of box) kept (lows_fit phase box fits) (highs_fit phase box fits)))
+pub greatest_room : (phase : PhaseAt) (p : ParamAt) (ps : List ℕ) (form : Form) (share : Share) (low high : List ℕ) → IsKept phase p ps form share → AreCounts phase.lattice (sites_of phase) low → AreCounts phase.lattice (sites_of phase) high →
+    product_at (counts_for (greatest_factor_at form low high) high low) ps * unsigned_abs (greatest_factor_at form low high) ≤ den share
+greatest_room phase p ps form share low high kept l h =
+    let are = products phase p ps form share low high kept l h in
+    omega (arith, kept.den_is, size_chosen (greatest_factor_at form low high) high low ps _ are.high_greatest are.low_greatest)

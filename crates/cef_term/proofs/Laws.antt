@@ -1,24 +1,23 @@
 -- The laws of a parameter's bounds, by its places and its form.
-use Rattle.std.proofs.Common.{◌≡◌, ℕ, zero, suc, ◌+◌, ◌-◌, ◌*◌, ◌^◌, ◌<◌, ◌≤◌, List, [], ◌∷◌, ◌++◌, length, map, refl, arith, ap, sym, ◌∙◌, slice_index, Bool, true, false}
-use Rattle.std.specs.Prelude.{ℤ, pos, ◌-ℤ◌, ◌*ℤ◌, ◌≤ℤ◌, unsigned_abs, sum}
+use Rattle.std.proofs.Common.{◌≡◌, ℕ, zero, suc, ◌+◌, ◌*◌, ◌^◌, ◌<◌, ◌≤◌, List, [], ◌∷◌, ◌++◌, length, map, refl, arith, sym, ◌∙◌, slice_index, Bool, true, false}
+use Rattle.std.specs.Prelude.{pos, ◌-ℤ◌, ◌*ℤ◌, ◌≤ℤ◌, sum}
 use Rattle.std.specs.List.{concat, AllByRecursion}
 use Rattle.std.proofs.lemmas.Int.{ints}
 use Rattle.std.proofs.lemmas.Nat.{mul-le}
 use Rattle.std.proofs.Math.Nat.{one-le-pow}
-use Rattle.std.proofs.lemmas.List.{length-append}
 use Rattle.cef_core.specs.declared.phase.ParamAt.{ParamAt}
 use Rattle.cef_box.specs.declared.range.Range.{Range}
 use Rattle.cef_core.specs.Shapes.{shape}
-use Rattle.cef_box.specs.Boxes.{lows_of, highs_of, AllWithin, IsInRow, IsMember, IsRange, IsSingle}
-use Rattle.cef_core.specs.Parameters.{picked, product_of, product_over, interacting, parameter_value, factor_of, factor_divisor, power}
-use Rattle.cef_core.specs.Phases.{ArePlaces, AreDistinct, IsOrder, factor_degree, degree}
-use Rattle.cef_box.specs.Terms.{FitsBox, FitsSite, Shape, IsBetween, AreOne}
+use Rattle.cef_box.specs.Boxes.{lows_of, highs_of, AllWithin, IsMember, IsSingle}
+use Rattle.cef_core.specs.Parameters.{picked, product_over, interacting, parameter_value, factor_of}
+use Rattle.cef_core.specs.Phases.{ArePlaces, AreDistinct, IsOrder}
+use Rattle.cef_box.specs.Terms.{IsBetween, AreOne}
 use Rattle.cef_term.specs.declared.form.Form.{Form}
 use Rattle.cef_term.specs.declared.form.Form.TheVariants.{Plain, Binary, Ternary}
-use Rattle.cef_term.specs.Bounds.{value_of, low_of, high_of, least_product, greatest_product, least_q, greatest_q, divisor, parameter_low, parameter_high, least_power, greatest_power}
+use Rattle.cef_term.specs.Bounds.{value_of, low_of, high_of, least_q, greatest_q, divisor, parameter_low, parameter_high}
 use Rattle.cef_term.specs.Kept.{placed, form_of, count_at, product_at, factor_at, least_factor_at, greatest_factor_at, factor_most, least_q_at, greatest_q_at}
 use Rattle.cef_term.proofs.Linked.{counted, linked, IsLinked}
-use Rattle.cef_term.proofs.Picking.{picked_is, product_over_is, interacting_is, lengths_are, placed_lengths, threes, interacting_all, IsWithinThree, AddTo, sum-cons}
+use Rattle.cef_term.proofs.Picking.{picked_is, product_over_is, interacting_is, lengths_are, threes, interacting_all, IsWithinThree, AddTo}
 use Rattle.cef_term.proofs.Powers.{power_above, power_below}
 use Rattle.cef_term.proofs.Sizes.{factor_between, factor_same, ends_same}
 
@@ -141,7 +140,8 @@ IsWithinForm n (Ternary m o i j) c = (m ≡ n) × (count_at c o + count_at c i +
 
 within_form : (n v : ℕ) (w : Bool) (lists : List (List ℕ)) (c : List ℕ) → IsOrder v w lists → AllByRecursion (IsWithinThree n c) lists → IsWithinForm n (form_of n v w lists) c
 within_form n v w [] c h a = tt
-within_form n v w ((i ∷ j ∷ []) ∷ []) c h a = tt
+within_form n zero w ((i ∷ j ∷ []) ∷ []) c h a = tt
+within_form n (suc v) w ((i ∷ j ∷ []) ∷ []) c h a = tt
 within_form n zero true ((i ∷ j ∷ k ∷ []) ∷ []) c h a = (refl, a.0)
 within_form n (suc zero) true ((i ∷ j ∷ k ∷ []) ∷ []) c h a = (refl, omega (arith, a.0))
 within_form n (suc (suc v)) true ((i ∷ j ∷ k ∷ []) ∷ []) c h a = (refl, omega (arith, a.0))

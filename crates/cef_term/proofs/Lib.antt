@@ -8,9 +8,13 @@ pub mod Factors
 pub mod Linked
 pub mod Picking
 pub mod Laws
+pub mod Choosing
+pub mod Parts
 pub mod Shares
 pub mod Keeping
 pub mod Lists
 pub mod Orders
+pub mod Smallness
 pub mod Given
+pub mod Terms
 mod Worked

@@ -1,10 +1,10 @@
 -- A parameter's factor and divisor by its form.
-use Rattle.std.proofs.Common.{◌≡◌, ℕ, zero, suc, ◌+◌, ◌-◌, ◌*◌, ◌^◌, ◌<◌, ◌≤◌, List, [], ◌∷◌, length, map, refl, arith, ap, Bool, true, false}
-use Rattle.std.specs.Prelude.{ℤ, pos, ◌-ℤ◌}
+use Rattle.std.proofs.Common.{◌≡◌, ℕ, zero, suc, ◌*◌, ◌^◌, ◌≤◌, List, [], ◌∷◌, map, refl, arith, ap, sym, Bool, true, false}
 use Rattle.std.proofs.lemmas.Int.{ints}
 use Rattle.std.proofs.Math.Nat.{pow-zero, pow-suc}
 use Rattle.cef_core.specs.Parameters.{factor_of, factor_divisor}
 use Rattle.cef_core.specs.Phases.{IsOrder, factor_degree}
+use Rattle.cef_term.proofs.Ends.{least_power-zero, greatest_power-zero}
 use Rattle.cef_term.specs.Bounds.{least_factor, greatest_factor}
 use Rattle.cef_term.specs.Kept.{form_of, count_at, factor_at, least_factor_at, greatest_factor_at, factor_most}
 
@@ -29,7 +29,8 @@ three_high n = omega (arith, pow-suc n 0, ap (λ (z : ℕ). z * n) (pow-zero n))
 
 pub linked : (n v : ℕ) (w : Bool) (lists : List (List ℕ)) (c low high : List ℕ) → IsOrder v w lists → IsLinked n v w lists c low high
 linked n v w [] c low high h = record { factor = refl; divisor = refl; degree = one_high n; least = refl; greatest = refl }
-linked n v w ((i ∷ j ∷ []) ∷ []) c low high h = record { factor = refl; divisor = refl; degree = some_high n v; least = refl; greatest = refl }
+linked n zero w ((i ∷ j ∷ []) ∷ []) c low high h = record { factor = refl; divisor = pow-zero n; degree = one_high n; least = sym (least_power-zero _ _ 0 refl); greatest = sym (greatest_power-zero _ _ 0 refl) }
+linked n (suc v) w ((i ∷ j ∷ []) ∷ []) c low high h = record { factor = refl; divisor = refl; degree = some_high n (suc v); least = refl; greatest = refl }
 linked n zero true ((i ∷ j ∷ k ∷ []) ∷ []) c low high h = record { factor = omega (arith, ints); divisor = refl; degree = three_high n; least = omega (arith, ints); greatest = omega (arith, ints) }
 linked n (suc zero) true ((i ∷ j ∷ k ∷ []) ∷ []) c low high h = record { factor = omega (arith, ints); divisor = refl; degree = three_high n; least = omega (arith, ints); greatest = omega (arith, ints) }
 linked n (suc (suc zero)) true ((i ∷ j ∷ k ∷ []) ∷ []) c low high h = record { factor = omega (arith, ints); divisor = refl; degree = three_high n; least = omega (arith, ints); greatest = omega (arith, ints) }

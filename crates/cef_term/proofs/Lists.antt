@@ -7,9 +7,8 @@ use Rattle.std.proofs.lemmas.List.{length-append, append_assoc}
 use Rattle.cef_core.specs.Shapes.{shape}
 use Rattle.cef_core.specs.Parameters.{interacting}
 use Rattle.cef_core.specs.Phases.{ArePlaces}
-use Rattle.cef_term.specs.declared.form.Form.{Form}
-use Rattle.cef_term.specs.declared.form.Form.TheVariants.{Plain, Binary, Ternary}
-use Rattle.cef_term.specs.Kept.{placed, form_of}
+use Rattle.cef_term.specs.declared.form.Form.TheVariants.{Plain, Binary}
+use Rattle.cef_term.specs.Kept.{placed, form_of, binary_form}
 use Rattle.cef_term.proofs.Picking.{sum-cons}
 
 pub append_none : {X : Type 0} (xs : List X) → xs ++ [] ≡ xs
@@ -82,4 +81,12 @@ pub ruleset one_mixed = (append_none, interacting_few, interacting_many)
 
 pub ruleset shifts = (append_none, append_assoc)
 
-pub ruleset forms = (form_many)
+pub binary_form-zero : (i j v : ℕ) → v ≡ 0 → Plain ≡ binary_form i j v
+binary_form-zero i j zero e = refl
+binary_form-zero i j (suc v) e = absurd (omega (arith, e))
+
+pub binary_form-some : (i j v : ℕ) → (v ≡ 0 → ⊥) → Binary i j v ≡ binary_form i j v
+binary_form-some i j zero h = absurd (h refl)
+binary_form-some i j (suc v) h = refl
+
+pub ruleset forms = (form_many, binary_form-zero, binary_form-some)

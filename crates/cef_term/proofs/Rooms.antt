@@ -1,16 +1,15 @@
 -- Room for the product of the counts at the places.
-use Rattle.std.proofs.Common.{◌≡◌, ℕ, zero, suc, ◌+◌, ◌-◌, ◌*◌, ◌^◌, ◌<◌, ◌≤◌, List, [], ◌∷◌, ◌++◌, length, take, map, arith, refl, ap, ◌∙◌, slice_index}
+use Rattle.std.proofs.Common.{◌≡◌, ℕ, zero, suc, ◌+◌, ◌-◌, ◌*◌, ◌^◌, ◌<◌, ◌≤◌, List, [], ◌∷◌, ◌++◌, length, take, arith, refl, ap, slice_index}
 use Rattle.std.proofs.lemmas.Nat.{mul-le}
 use Rattle.std.proofs.Math.Nat.{pow-suc, pow-zero, pow-le-pow_right, one-le-pow}
 use Rattle.std.proofs.lemmas.List.{length-take}
 use Rattle.std.specs.Prelude.{pos, ◌-ℤ◌, unsigned_abs}
-use Rattle.std.proofs.lemmas.Int.{ints, to_z-of_z}
+use Rattle.std.proofs.lemmas.Int.{ints}
 use Rattle.cef_core.specs.Parameters.{product_of}
 use Rattle.cef_term.proofs.Sizes.{power_size, ends_size}
-use Rattle.cef_term.proofs.Roomy.{part_size, least_product_room, greatest_product_room}
 use Rattle.cef_term.specs.declared.form.Form.{Form}
 use Rattle.cef_term.specs.declared.form.Form.TheVariants.{Plain, Binary, Ternary}
-use Rattle.cef_term.specs.Kept.{count_at, product_at, factor_at, least_factor_at, greatest_factor_at, value_q_at, least_q_at, greatest_q_at, factor_most, IsFormIn, HasRoom}
+use Rattle.cef_term.specs.Kept.{count_at, product_at, factor_at, least_factor_at, greatest_factor_at, factor_most, HasProduct}
 
 pub product_at-size : (counts places : List ℕ) (n : ℕ) → ((k : ℕ) → count_at counts k ≤ n) → product_at counts places ≤ n ^ length places
 product_at-size counts [] n small = omega (arith, pow-zero n)
@@ -32,19 +31,17 @@ product_at-take counts (p ∷ places) (suc i) lt =
     let e : suc i + 1 ≡ suc (i + 1) = omega arith in
     rw e (omega (arith, ap (λ (z : ℕ). count_at counts p * z) (product_at-take counts places i (omega arith))))
 
-pub product_at-front : (counts places : List ℕ) (form : Form) (i : ℕ) → HasRoom counts counts places form → product_at counts (take i places) ≤ 3 * 2 ^ 70
-product_at-front counts places form i has =
+pub product_at-front : (most : ℕ) (counts places : List ℕ) (i : ℕ) → HasProduct most counts places → product_at counts (take i places) ≤ most
+product_at-front most counts places i has =
     let len : length (take i places) ≤ length places = omega (arith, length-take i places) in
-    let below = product_at-size counts (take i places) has.n has.low_small in
+    let below = product_at-size counts (take i places) has.n has.small in
     let up : has.n ^ length (take i places) ≤ has.n ^ length places = pow-le-pow_right {n = has.n} has.some {i = length (take i places)} {j = length places} len in
-    omega (arith, below, up, has.room, mul-le (has.n ^ length places) 1 (has.n ^ length places) (factor_most has.n form) (omega arith) (factor_most-low has.n form has.some))
+    omega (arith, below, up, has.room)
 
-pub product_at-room : (counts places : List ℕ) (form : Form) (i : ℕ) → HasRoom counts counts places form → i < length places → product_at counts (take i places) * slice_index counts (slice_index places i) ≤ 3 * 2 ^ 70
-product_at-room counts places form i has lt = omega (arith, product_at-take counts places i lt, product_at-front counts places form (i + 1) has)
+pub product_at-room : (most : ℕ) (counts places : List ℕ) (i : ℕ) → HasProduct most counts places → i < length places → product_at counts (take i places) * slice_index counts (slice_index places i) ≤ most
+product_at-room most counts places i has lt = omega (arith, product_at-take counts places i lt, product_at-front most counts places (i + 1) has)
 
 pub ruleset products = (product_at-take)
-
-pub ruleset products_times = (to_z-of_z)
 
 -- the sizes of the factor, and of the products with it
 pub record AreFactors (n : ℕ) (form : Form) (low high : List ℕ) : Type 0 where
@@ -57,11 +54,6 @@ abbrev pub IsFormOf : ℕ → Form → Type 0
 IsFormOf n Plain = Unit {0}
 IsFormOf n (Binary i j v) = Unit {0}
 IsFormOf n (Ternary m o i j) = m ≡ n
-
-pub form_of_in : (n sites : ℕ) (form : Form) → IsFormIn n sites form → IsFormOf n form
-form_of_in n sites Plain h = tt
-form_of_in n sites (Binary i j v) h = tt
-form_of_in n sites (Ternary m o i j) h = h.3
 
 pub factors_size : (n : ℕ) (form : Form) (low high : List ℕ) → IsFormOf n form → ((k : ℕ) → count_at low k ≤ n) → ((k : ℕ) → count_at high k ≤ n) → AreFactors n form low high
 factors_size n Plain low high m a b = record { value = omega (arith, ints); least = omega (arith, ints); greatest = omega (arith, ints) }
@@ -96,18 +88,6 @@ products_size n places form low high m a b =
       low_greatest = mul-le _ _ _ _ l f.greatest;
       high_greatest = mul-le _ _ _ _ h f.greatest;
     }
-
-pub room_of : (low high places : List ℕ) (form : Form) (has : HasRoom low high places form) → AreProducts has.n places form low high
-room_of low high places form has = products_size has.n places form low high (form_of_in has.n (length low) form has.low_form) has.low_small has.high_small
-
-pub value_q-size : (n : ℕ) (places : List ℕ) (form : Form) (low high : List ℕ) → AreProducts n places form low high → unsigned_abs (value_q_at places form low) ≤ n ^ length places * factor_most n form
-value_q-size n places form low high are = part_size (product_at low places) (factor_at form low) _ are.value
-
-pub least_q-size : (n : ℕ) (places : List ℕ) (form : Form) (low high : List ℕ) → AreProducts n places form low high → unsigned_abs (least_q_at places form low high) ≤ n ^ length places * factor_most n form
-least_q-size n places form low high are = least_product_room (product_at low places) (product_at high places) (least_factor_at form low high) _ are.low_least are.high_least
-
-pub greatest_q-size : (n : ℕ) (places : List ℕ) (form : Form) (low high : List ℕ) → AreProducts n places form low high → unsigned_abs (greatest_q_at places form low high) ≤ n ^ length places * factor_most n form
-greatest_q-size n places form low high are = greatest_product_room (product_at low places) (product_at high places) (greatest_factor_at form low high) _ are.low_greatest are.high_greatest
 
 -- powers of N
 pub power-zero : (n e : ℕ) → e ≡ 0 → 1 ≡ n ^ e

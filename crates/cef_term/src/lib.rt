@@ -1,11 +1,14 @@
 //! Parameters as terms of an energy: their values, and their lows and highs over boxes.
 #![tactic(auto)]
 
+mod divisor;
+mod factor;
 mod form;
+mod narrow;
 mod param_term;
 mod placing;
 mod power;
-mod product;
 mod share;
+mod wide;
 
 pub use param_term::ParamTerm;

@@ -1,13 +1,14 @@
-ghost use Rattle.std.specs.Prelude.{◌≡◌, ◌<◌, List, ℕ, ℤ, IfOk, Some, length, slice_get, unsigned_abs};
+ghost use Rattle.std.specs.Prelude.{◌≡◌, ◌<◌, ◌≤◌, List, ℕ, ℤ, IfOk, Some, length, slice_get, unsigned_abs};
 ghost use Rattle.cef_core.specs.Parameters.{parameter_value};
 ghost use Rattle.cef_core.specs.Phases.{IsFine};
 ghost use Rattle.cef_box.specs.Terms.{shape_of_phase};
-ghost use Rattle.cef_term.specs.Bounds.{parameter_low, parameter_high};
-ghost use Rattle.cef_term.specs.Kept.{IsKept};
+ghost use Rattle.cef_term.specs.Bounds.{parameter_low, parameter_high, value_of};
+ghost use Rattle.cef_term.specs.Kept.{IsKept, AreCounts, den, sites_of, least_q_at, greatest_q_at};
 
+use crate::divisor::divisor_of;
+use crate::factor::{counts_for, factor_of, greatest_factor_of, least_factor_of};
 use crate::form::Form;
 use crate::placing::{form_of, place_array};
-use crate::product::{divisor_of, greatest_q, least_q, value_q};
 use crate::share::{Share, share_of, share_value};
 use cef_box::{BoxRange, Term};
 use cef_core::{ParamAt, PhaseAt, Site};
@@ -53,6 +54,34 @@ impl<'a> ParamTerm<'a> {
             share,
         })
     }
+
+    /// The value for the least product of the counts and the factor over a box.
+    #[inline(always)]
+    #[tactic(auto, using(crate::proofs::Terms::least_rules))]
+    fn at_least(&self, low: &[u16], high: &[u16]) -> i128
+        requires low { AreCounts self.now.phase.now.lattice (sites_of self.now.phase.now) low.now }
+        requires high { AreCounts self.now.phase.now.lattice (sites_of self.now.phase.now) high.now }
+        ensures exact { result ≡ value_of self.now.parameter.now.micro (den self.now.share) (least_q_at self.now.places.items self.now.form low.now high.now) }
+        ensures size { unsigned_abs result ≤ unsigned_abs self.now.parameter.now.micro }
+    {
+        let factor = least_factor_of(self.form, low, high);
+        let counts = counts_for(factor, low, high);
+        share_value(self.share, counts, self.places.as_slice(), factor)
+    }
+
+    /// The value for the greatest product of the counts and the factor over a box.
+    #[inline(always)]
+    #[tactic(auto, using(crate::proofs::Terms::greatest_rules))]
+    fn at_greatest(&self, low: &[u16], high: &[u16]) -> i128
+        requires low { AreCounts self.now.phase.now.lattice (sites_of self.now.phase.now) low.now }
+        requires high { AreCounts self.now.phase.now.lattice (sites_of self.now.phase.now) high.now }
+        ensures exact { result ≡ value_of self.now.parameter.now.micro (den self.now.share) (greatest_q_at self.now.places.items self.now.form low.now high.now) }
+        ensures size { unsigned_abs result ≤ unsigned_abs self.now.parameter.now.micro }
+    {
+        let factor = greatest_factor_of(self.form, low, high);
+        let counts = counts_for(factor, high, low);
+        share_value(self.share, counts, self.places.as_slice(), factor)
+    }
 }
 
 impl<'a> Term for ParamTerm<'a> {
@@ -66,30 +95,31 @@ impl<'a> Term for ParamTerm<'a> {
 
     ghost most = { λ t. unsigned_abs t.parameter.now.micro };
 
+    #[inline]
+    #[tactic(auto, using(crate::proofs::Terms::value_rules))]
     fn value(&self, site: &Site) -> i128 {
-        let q = value_q(self.form, site.counts(), self.places.as_slice());
-        share_value(self.share, q)
+        let counts = site.counts();
+        let factor = factor_of(self.form, counts);
+        share_value(self.share, counts, self.places.as_slice(), factor)
     }
 
+    #[inline]
+    #[tactic(auto, using(crate::proofs::Terms::low_rules))]
     fn low(&self, range: &BoxRange) -> i128 {
-        let places = self.places.as_slice();
         if self.parameter.micro < 0 {
-            let q = greatest_q(self.form, range.lows(), range.highs(), places);
-            share_value(self.share, q)
+            self.at_greatest(range.lows(), range.highs())
         } else {
-            let q = least_q(self.form, range.lows(), range.highs(), places);
-            share_value(self.share, q)
+            self.at_least(range.lows(), range.highs())
         }
     }
 
+    #[inline]
+    #[tactic(auto, using(crate::proofs::Terms::high_rules))]
     fn high(&self, range: &BoxRange) -> i128 {
-        let places = self.places.as_slice();
         if self.parameter.micro < 0 {
-            let q = least_q(self.form, range.lows(), range.highs(), places);
-            share_value(self.share, q)
+            self.at_least(range.lows(), range.highs())
         } else {
-            let q = greatest_q(self.form, range.lows(), range.highs(), places);
-            share_value(self.share, q)
+            self.at_greatest(range.lows(), range.highs())
         }
     }
 

@@ -5,7 +5,7 @@ ghost use Rattle.std.specs.List.{concat, AllByRecursion};
 ghost use Rattle.cef_core.specs.Shapes.{shape};
 ghost use Rattle.cef_core.specs.Parameters.{interacting};
 ghost use Rattle.cef_core.specs.Phases.{ArePlaces};
-ghost use Rattle.cef_term.specs.Kept.{placed, form_of};
+ghost use Rattle.cef_term.specs.Kept.{placed, form_of, binary_form};
 
 use crate::form::Form;
 use cal_list::Items;
@@ -130,11 +130,7 @@ fn form_of_list(parts: u32, order: u8, weighted: bool, list: &[u16]) -> Form
     ensures { result ≡ form_of parts order weighted (list.now ∷ []) }
 {
     if list.len() == 2 {
-        Form::Binary {
-            first: list[0],
-            second: list[1],
-            order,
-        }
+        binary_form(list[0], list[1], order)
     } else if list.len() == 3 {
         if weighted {
             ternary(parts, order, list[0], list[1], list[2])
@@ -143,6 +139,22 @@ fn form_of_list(parts: u32, order: u8, weighted: bool, list: &[u16]) -> Form
         }
     } else {
         Form::Plain
+    }
+}
+
+/// The form of a binary interaction, whose factor is 1 at the order 0.
+#[tactic(auto, using(crate::proofs::Lists::forms))]
+fn binary_form(first: u16, second: u16, order: u8) -> Form
+    ensures { result ≡ binary_form first second order }
+{
+    if order == 0 {
+        Form::Plain
+    } else {
+        Form::Binary {
+            first,
+            second,
+            order,
+        }
     }
 }
 

@@ -1,27 +1,30 @@
 //! Powers of differences of counts.
 
-ghost use Rattle.std.specs.Prelude.{◌≡◌, ◌≤◌, ◌^◌, ◌*◌, ◌-◌, pos, ◌≤ℤ◌, ◌-ℤ◌, ◌*ℤ◌, unsigned_abs};
+ghost use Rattle.std.specs.Prelude.{◌≡◌, ◌≤◌, ◌^◌, pos, ◌-ℤ◌, ◌*ℤ◌, unsigned_abs};
 ghost use Rattle.cef_core.specs.Parameters.{power};
 ghost use Rattle.cef_term.specs.Bounds.{least_power, greatest_power};
 ghost use Rattle.cef_term.specs.Kept.{IsRoomy};
 
 /// The product of two numbers.
-pub fn product(a: i128, b: i128) -> i128
-    requires { unsigned_abs (a *ℤ b) ≤ 2 ^ 127 - 1 }
+#[inline(always)]
+fn product(a: i64, b: i64) -> i64
+    requires { unsigned_abs (a *ℤ b) ≤ 2 ^ 62 }
     ensures { result ≡ a *ℤ b }
 {
     a * b
 }
 
 /// The difference of two counts.
-pub fn difference(a: u16, b: u16) -> i128
+#[inline(always)]
+pub fn difference(a: u16, b: u16) -> i64
     ensures { result ≡ pos a -ℤ pos b }
 {
-    i128::from(a) - i128::from(b)
+    i64::from(a) - i64::from(b)
 }
 
 /// A power of a base whose magnitude has room.
-pub fn power_of(base: i128, order: u8) -> i128
+#[inline(always)]
+pub fn power_of(base: i64, order: u8) -> i64
     requires { IsRoomy base order }
     ensures { result ≡ power base order }
 {
@@ -33,8 +36,9 @@ pub fn power_of(base: i128, order: u8) -> i128
 }
 
 /// The least power of a base from low to high.
+#[inline(always)]
 #[tactic(auto, using(crate::proofs::Ends::least_power_rules))]
-pub fn least_power_of(low: i128, high: i128, order: u8) -> i128
+pub fn least_power_of(low: i64, high: i64, order: u8) -> i64
     requires low_room { IsRoomy low order }
     requires high_room { IsRoomy high order }
     ensures { result ≡ least_power low high order }
@@ -53,8 +57,9 @@ pub fn least_power_of(low: i128, high: i128, order: u8) -> i128
 }
 
 /// The greatest power of a base from low to high.
+#[inline(always)]
 #[tactic(auto, using(crate::proofs::Ends::greatest_power_rules))]
-pub fn greatest_power_of(low: i128, high: i128, order: u8) -> i128
+pub fn greatest_power_of(low: i64, high: i64, order: u8) -> i64
     requires low_room { IsRoomy low order }
     requires high_room { IsRoomy high order }
     ensures { result ≡ greatest_power low high order }

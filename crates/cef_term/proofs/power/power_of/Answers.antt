@@ -1,13 +1,7 @@
-use Rattle.std.proofs.Common.{rules, ◌≡◌, ◌≤◌, ◌^◌, ◌*◌, ◌+◌, arith, refl, to_z, SFits, ℕ, sym, ◌∙◌}
-use Rattle.std.specs.Prelude.{ℤ, pos, ◌*ℤ◌, ◌≤ℤ◌, ◌<ℤ◌, unsigned_abs}
-use Rattle.std.specs.Int.{w128, int_div_euclid}
-use Rattle.std.proofs.lemmas.Int.{ints, to_z-of_z, unsigned_abs-mul}
-use Rattle.std.proofs.lemmas.Nat.{mul-le}
-use Rattle.cef_term.proofs.Values.{value_size}
-use Rattle.cef_term.proofs.Roomy.{step_room, power_more, low_of-below, low_of-above, high_of-below, high_of-above, least_product-below, least_product-above, greatest_product-below, greatest_product-above}
-use Rattle.cef_core.specs.Parameters.{power}
-use Rattle.cef_term.specs.Bounds.{value_of}
-use Rattle.cef_term.specs.Kept.{IsRoomy}
+use Rattle.std.proofs.Common.{rules, arith, refl, SFits, ◌∙◌}
+use Rattle.std.specs.Int.{w64}
+use Rattle.std.proofs.lemmas.Int.{to_z-of_z}
+use Rattle.cef_term.proofs.Roomy.{step_room, power_more}
 use Rattle.cef_term.proofs.power.power_of.Goals as goal
 
 pub steps-init : goal.steps-init
@@ -21,6 +15,6 @@ product-total-requires c =
 pub steps-preserved : goal.steps-preserved
 steps-preserved c =
     let fits_base = c.ranges.base in
-    let fits : SFits w128 c.product-total.result = search rules in
+    let fits : SFits w64 c.product-total.result = search rules in
     let is = simp (to_z-of_z, c.steps.invariant) at c.product-total.ensures in
     simp to_z-of_z (is ∙ power_more c.args.base c.steps.step)

@@ -1,10 +1,9 @@
-use Rattle.std.proofs.Common.{rules, ◌≡◌, ◌≤◌, ◌*◌, ◌^◌, arith, SFits, Some, slice_get, length, refl, sym, ◌∙◌, ap}
-use Rattle.std.specs.Prelude.{unsigned_abs}
+use Rattle.std.proofs.Common.{rules, ◌≡◌, ◌*◌, ◌^◌, SFits, Some, slice_get, length, refl}
 use Rattle.std.specs.List.{concat}
 use Rattle.std.specs.Int.{w128}
-use Rattle.std.proofs.lemmas.Int.{ints, to_z-of_z}
+use Rattle.std.proofs.lemmas.Int.{to_z-of_z}
 use Rattle.cef_core.specs.Shapes.{shape}
-use Rattle.cef_term.specs.Kept.{factor_most, form_of, placed, micro_of, den}
+use Rattle.cef_term.specs.Kept.{factor_most, micro_of, den}
 use Rattle.cef_term.proofs.Laws.{places_of, form_in}
 use Rattle.cef_term.proofs.Rooms.{divisor-low}
 use Rattle.cef_term.proofs.Given.{got, micro_small, given, divisor_high, kept}

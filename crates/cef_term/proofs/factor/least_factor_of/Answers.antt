@@ -1,18 +1,18 @@
 use Rattle.std.proofs.Common.{rules, ◌≡◌, SFits, slice_index}
 use Rattle.std.specs.Prelude.{pos, ◌-ℤ◌}
-use Rattle.std.specs.Int.{w128}
+use Rattle.std.specs.Int.{w64}
 use Rattle.std.proofs.lemmas.Int.{to_z-of_z}
 use Rattle.cef_term.proofs.Factors.{roomy_low, roomy_high}
-use Rattle.cef_term.proofs.product.least_factor_of.Goals as goal
+use Rattle.cef_term.proofs.factor.least_factor_of.Goals as goal
 
 pub least_power_of-requires-clause-low_room : goal.least_power_of-requires-clause-low_room
 least_power_of-requires-clause-low_room c =
-    let fits : SFits w128 c.difference.result = search rules in
+    let fits : SFits w64 c.difference.result = search rules in
     let base : c.difference.result ≡ pos (slice_index c.args.low.now c.in-Binary.first) -ℤ pos (slice_index c.args.high.now c.in-Binary.second) = rw (c.from.ensures, c.from-in-Binary.ensures) at c.difference.ensures in
-    simp to_z-of_z (rw base (roomy_low c.args.low.now c.args.high.now c.args.places.now c.args.form _ _ _ c.in-Binary.is c.requires))
+    simp to_z-of_z (rw base (roomy_low c.args.low.now c.args.high.now c.args.form _ _ _ c.in-Binary.is c.requires))
 
 pub least_power_of-requires-clause-high_room : goal.least_power_of-requires-clause-high_room
 least_power_of-requires-clause-high_room c =
-    let fits : SFits w128 c.difference-in-Binary.result = search rules in
+    let fits : SFits w64 c.difference-in-Binary.result = search rules in
     let base : c.difference-in-Binary.result ≡ pos (slice_index c.args.high.now c.in-Binary.first) -ℤ pos (slice_index c.args.low.now c.in-Binary.second) = rw (c.from-in-Binary-2.ensures, c.from-in-Binary-3.ensures) at c.difference-in-Binary.ensures in
-    simp to_z-of_z (rw base (roomy_high c.args.low.now c.args.high.now c.args.places.now c.args.form _ _ _ c.in-Binary.is c.requires))
+    simp to_z-of_z (rw base (roomy_high c.args.low.now c.args.high.now c.args.form _ _ _ c.in-Binary.is c.requires))

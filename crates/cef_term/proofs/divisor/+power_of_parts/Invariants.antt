@@ -1,4 +1,4 @@
-use Rattle.cef_term.proofs.product.+power_of_parts.Given as goal
+use Rattle.cef_term.proofs.divisor.+power_of_parts.Given as goal
 
 abbrev pub decreases-power_of_parts : goal.decreases-power_of_parts
 decreases-power_of_parts l = l.exponent
