@@ -1,0 +1,5 @@
+use Rattle.cef_mag.proofs.Adding.{IsSumUpTo}
+use Rattle.cef_mag.proofs.sums.sum_of_lows.Given as goal
+
+abbrev pub invariant-each : goal.invariant-each
+invariant-each g l = IsSumUpTo (λ t. g.T.Term.low_over t l.range) g.T.Term.most l.terms l.term-index l.total

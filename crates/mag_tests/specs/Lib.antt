@@ -1,0 +1,2 @@
+-- The phase of the tests.
+pub mod Fixtures
