@@ -6,7 +6,11 @@ use Rattle.std.proofs.lemmas.Bool.{cases_lt}
 use Rattle.cal_math.specs.Whole.{*ℤ-+ℤ, *ℤ--ℤ}
 use Rattle.cef_core.specs.Mixing.{mixing_at}
 use Rattle.cef_mix.specs.Mixes.{height, IsLeastOn}
-use Rattle.cef_mix.specs.Tables.{entry, IsConvex, AreEnergies}
+use Rattle.cef_mix.specs.Tables.{entry, AreEnergies}
+
+-- the differences from one count to the next do not fall, up to the count n
+abbrev pub IsConvex : ℕ → (ℕ → ℤ) → Type 0
+IsConvex n h = (k : ℕ) → k + 2 ≤ n → (h (k + 1) -ℤ h k) ≤ℤ (h (k + 2) -ℤ h (k + 1))
 
 -- the difference from a count to the next
 abbrev pub rise : (ℕ → ℤ) → ℕ → ℤ
@@ -83,19 +87,18 @@ IsHalving-right n h slope low high first last middle convex within has a b f = r
   right = has.right;
 }
 
-pub IsHalving-left : (n : ℕ) (h : ℕ → ℤ) (slope : ℤ) (low high first last middle : ℕ) → IsConvex n h → high ≤ n → IsHalving h slope low high first last → first ≤ middle → middle < last → Climbs h slope middle →
-    IsHalving h slope low high first middle
-IsHalving-left n h slope low high first last middle convex within has a b f = record {
+pub IsHalving-left : (n : ℕ) (h : ℕ → ℤ) (slope : ℤ) (low high first last middle next : ℕ) → IsConvex n h → high ≤ n → IsHalving h slope low high first last → first ≤ next → middle ≤ next → next ≤ last → middle < last →
+    Climbs h slope middle → IsHalving h slope low high first next
+IsHalving-left n h slope low high first last middle next convex within has a b c d f = record {
   from = has.from;
   order = a;
   to = omega (arith, has.to);
   left = has.left;
-  right = λ j p q. omega (arith, ints, f, rises n h convex middle j p (omega arith));
+  right = λ j p q. omega (arith, ints, f, rises n h convex middle j (omega arith) (omega arith));
 }
 
-pub least_there : (h : ℕ → ℤ) (slope : ℤ) (low high first last : ℕ) (x : ℤ) → IsHalving h slope low high first last → last ≤ first → x ≡ height h slope first → IsLeastOn h slope low high x
+pub least_there : (h : ℕ → ℤ) (slope : ℤ) (low high first last : ℕ) (x : ℤ) → IsHalving h slope low high first last → last ≤ first → x ≡ height h slope first → IsLeastOn h slope low high first x
 least_there h slope low high first last x has le e = record {
-  place = first;
   from = has.from;
   to = omega (arith, has.order, has.to);
   reached = e;
@@ -113,12 +116,11 @@ least_there h slope low high first last x has le e = record {
     ]
 
 -- the least of a table's entries is that of the energies of mixing
-pub least_of_mixing : (t n a : ℕ) (energies : List ℤ) (slope : ℤ) (low high : ℕ) (x : ℤ) → AreEnergies t n a energies → high ≤ n → IsLeastOn (entry energies) slope low high x → IsLeastOn (mixing_at t n a) slope low high x
-least_of_mixing t n a energies slope low high x are within least = record {
-  place = least.place;
+pub least_of_mixing : (t n a : ℕ) (energies : List ℤ) (slope : ℤ) (low high place : ℕ) (x : ℤ) → AreEnergies t n a energies → high ≤ n → IsLeastOn (entry energies) slope low high place x → IsLeastOn (mixing_at t n a) slope low high place x
+least_of_mixing t n a energies slope low high place x are within least = record {
   from = least.from;
   to = least.to;
-  reached = least.reached ∙ ap (λ z. pos 65536 *ℤ z -ℤ slope *ℤ pos least.place) (are.entries least.place (omega (arith, least.to)));
+  reached = least.reached ∙ ap (λ z. pos 65536 *ℤ z -ℤ slope *ℤ pos place) (are.entries place (omega (arith, least.to)));
   below = λ k p q. subst (λ z. x ≤ℤ (pos 65536 *ℤ z -ℤ slope *ℤ pos k)) (are.entries k (omega arith)) (least.below k p q);
 }
 

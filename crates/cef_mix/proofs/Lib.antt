@@ -1,3 +1,4 @@
 pub mod Energies
 pub mod Heights
 pub mod Halves
+pub mod Rises

@@ -21,9 +21,8 @@ mixing_of_phase phase = record { t = phase.t; lattice = phase.lattice; ratios = 
 abbrev pub height : (ℕ → ℤ) → ℤ → ℕ → ℤ
 height h slope k = pos 65536 *ℤ h k -ℤ slope *ℤ pos k
 
--- the least height from one count to another: one of them has it, and none is below
-pub record IsLeastOn (h : ℕ → ℤ) (slope : ℤ) (low high : ℕ) (least : ℤ) : Type 0 where
-  pub place : ℕ
+-- the least height from one count to another: the place has it, and none is below
+pub record IsLeastOn (h : ℕ → ℤ) (slope : ℤ) (low high place : ℕ) (least : ℤ) : Type 0 where
   pub from : low ≤ place
   pub to : place ≤ high
   pub reached : least ≡ height h slope place

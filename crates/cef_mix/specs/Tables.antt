@@ -17,17 +17,24 @@ mixed_code =
 abbrev pub entry : List ℤ → ℕ → ℤ
 entry energies k = slice_index_or energies k (pos 0)
 
--- the differences from one count to the next do not fall, up to the count n
-abbrev pub IsConvex : ℕ → (ℕ → ℤ) → Type 0
-IsConvex n h = (k : ℕ) → k + 2 ≤ n → (h (k + 1) -ℤ h k) ≤ℤ (h (k + 2) -ℤ h (k + 1))
-
 -- the energies of mixing of 0 to n parts
 pub record AreEnergies (t n a : ℕ) (energies : List ℤ) : Type 0 where
   pub each : length energies ≡ n + 1
   pub entries : (k : ℕ) → k ≤ n → entry energies k ≡ mixing_at t n a k
   pub small : (k : ℕ) → unsigned_abs (entry energies k) ≤ MOST_ENERGY
 
--- and whether they are known to be convex
-pub record IsTable (t n a : ℕ) (list : List ℤ) (convex : Bool) : Type 0 where
+-- the differences from each energy to the next one
+pub record AreRises (energies rises : List ℤ) : Type 0 where
+  pub each : length rises + 1 ≡ length energies
+  pub entries : (k : ℕ) → k < length rises → entry rises k ≡ entry energies (k + 1) -ℤ entry energies k
+  pub small : (k : ℕ) → unsigned_abs (entry rises k) ≤ 2 * MOST_ENERGY
+
+-- none is below the one before
+abbrev pub AreOrdered : List ℤ → Type 0
+AreOrdered rises = (k : ℕ) → k + 1 < length rises → entry rises k ≤ℤ entry rises (k + 1)
+
+-- the energies and their differences, and whether these are known to be in order
+pub record IsTable (t n a : ℕ) (list differences : List ℤ) (convex : Bool) : Type 0 where
   pub energies : AreEnergies t n a list
-  pub turns : convex ≡ true → IsConvex n (entry list)
+  pub rises : AreRises list differences
+  pub ordered : convex ≡ true → AreOrdered differences

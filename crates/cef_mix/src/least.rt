@@ -1,10 +1,16 @@
 //! The least height of an energy above a slope, over a range of counts.
 
-ghost use Rattle.std.specs.Prelude.{◌≡◌, ℕ, ◌+◌, ◌-◌, ◌*◌, ◌^◌, ◌<◌, ◌≤◌, length, pos, ◌-ℤ◌, ◌*ℤ◌, ◌≤ℤ◌, unsigned_abs};
-ghost use Rattle.std.specs.Bool.{OnTrue, OnFalse};
+ghost use Rattle.std.specs.Prelude.{◌≡◌, ℕ, ◌+◌, ◌-◌, ◌*◌, ◌^◌, ◌<◌, ◌≤◌, length, ℤ, pos, ◌-ℤ◌, ◌*ℤ◌, ◌≤ℤ◌, ◌<ℤ◌, unsigned_abs};
 ghost use Rattle.cal_limits.specs.declared.TheConstants.{MOST_ENERGY};
 ghost use Rattle.cef_mix.specs.Mixes.{height, IsLeastOn};
-ghost use Rattle.cef_mix.specs.Tables.{entry, IsConvex};
+ghost use Rattle.cef_mix.specs.Tables.{entry, AreRises, AreOrdered};
+
+/// The least height over a range, and a count that has it.
+#[derive(Clone, Copy)]
+pub struct Least {
+    pub place: u16,
+    pub height: i128,
+}
 
 /// The height of an energy: 2^16 times it, less the slope's share of the count.
 #[tactic(auto, using(crate::proofs::Heights::heights))]
@@ -17,65 +23,72 @@ fn height_of(energy: i64, slope: i128, count: usize) -> i128
 }
 
 /// The least height, by going over all counts.
-pub fn least_of_all(energies: &[i64], low: u16, high: u16, slope: i128) -> i128
+pub fn least_of_all(energies: &[i64], low: u16, high: u16, slope: i128) -> Least
     requires order { low ≤ high }
     requires within { high < length energies.now }
     requires small { (k : ℕ) → unsigned_abs (entry energies.now k) ≤ MOST_ENERGY }
     requires slope { unsigned_abs slope * (length energies.now - 1) ≤ 2 ^ 119 }
-    ensures { IsLeastOn (entry energies.now) slope low high result }
+    ensures { IsLeastOn (entry energies.now) slope low high result.place result.height }
 {
     let first = usize::from(low);
     let end = usize::from(high) + 1;
+    let mut place = low;
     let mut least = height_of(energies[first], slope, first);
     'each: for k in first + 1..end {
         let here = height_of(energies[k], slope, k);
         if here < least {
             least = here;
+            place = k as u16;
         }
     }
-    least
+    Least {
+        place,
+        height: least,
+    }
 }
 
-/// The difference from an energy to the next.
-#[tactic(auto, using(crate::proofs::Heights::heights))]
-pub fn rise(here: i64, next: i64) -> i64
-    requires here { unsigned_abs here ≤ MOST_ENERGY }
-    requires next { unsigned_abs next ≤ MOST_ENERGY }
-    ensures exact { result ≡ next -ℤ here }
-    ensures size { unsigned_abs result ≤ 2 * MOST_ENERGY }
+/// More than any difference of two energies, in µJ per mol of formula units.
+const STEEPEST: i128 = 1 << 57;
+
+/// The greatest rise of an energy that does not lift its height: 2^16 times it is no more than the slope.
+#[tactic(auto, using(crate::proofs::Rises::falls))]
+fn greatest_fall(slope: i128) -> i64
+    ensures yes { (rise : ℤ) → unsigned_abs rise ≤ 2 * MOST_ENERGY → rise ≤ℤ result → (pos 65536 *ℤ rise) ≤ℤ slope }
+    ensures no { (rise : ℤ) → unsigned_abs rise ≤ 2 * MOST_ENERGY → result <ℤ rise → slope ≤ℤ (pos 65536 *ℤ rise) }
 {
-    next - here
+    let most = slope.div_euclid(65536);
+    if most < -STEEPEST {
+        -(STEEPEST as i64)
+    } else if STEEPEST < most {
+        STEEPEST as i64
+    } else {
+        most as i64
+    }
 }
 
-/// Whether an energy that rises so much rises by no more than the slope.
-fn falls(rise: i64, slope: i128) -> bool
-    requires rise { unsigned_abs rise ≤ 2 * MOST_ENERGY }
-    ensures yes { OnTrue result ((pos 65536 *ℤ rise) ≤ℤ slope) }
-    ensures no { OnFalse result (slope ≤ℤ (pos 65536 *ℤ rise)) }
-{
-    65536 * i128::from(rise) < slope
-}
-
-/// The least height of convex energies, by halving the range: left of the least place the heights fall, right of it they
-/// do not.
-pub fn least_by_halves(energies: &[i64], low: u16, high: u16, slope: i128) -> i128
+/// The least height of energies whose rises are in order, by halving the range: left of the least place the heights fall,
+/// right of it they do not.
+pub fn least_by_halves(energies: &[i64], rises: &[i64], low: u16, high: u16, slope: i128) -> Least
     requires order { low ≤ high }
     requires within { high < length energies.now }
     requires small { (k : ℕ) → unsigned_abs (entry energies.now k) ≤ MOST_ENERGY }
     requires slope { unsigned_abs slope * (length energies.now - 1) ≤ 2 ^ 119 }
-    requires convex { IsConvex (length energies.now - 1) (entry energies.now) }
-    ensures { IsLeastOn (entry energies.now) slope low high result }
+    requires rises { AreRises energies.now rises.now }
+    requires ordered { AreOrdered rises.now }
+    ensures { IsLeastOn (entry energies.now) slope low high result.place result.height }
 {
+    let most = greatest_fall(slope);
     let mut first = usize::from(low);
-    let mut last = usize::from(high);
-    'halves: while first < last {
-        let middle = (first + last) / 2;
-        let rise = rise(energies[middle], energies[middle + 1]);
-        if falls(rise, slope) {
-            first = middle + 1;
-        } else {
-            last = middle;
+    let mut left = usize::from(high) - first;
+    'halves: while left > 0 {
+        let half = left - left / 2;
+        if rises[first + half - 1] <= most {
+            first += half;
         }
+        left -= half;
     }
-    height_of(energies[first], slope, first)
+    Least {
+        place: first as u16,
+        height: height_of(energies[first], slope, first),
+    }
 }

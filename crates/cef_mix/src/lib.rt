@@ -5,4 +5,5 @@ mod least;
 mod mix;
 mod table;
 
+pub use least::Least;
 pub use mix::Mix;

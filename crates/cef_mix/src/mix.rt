@@ -1,8 +1,10 @@
-ghost use Rattle.std.specs.Prelude.{◌≡◌, ℕ, ◌+◌, ◌*◌, ◌^◌, ◌<◌, ◌≤◌, IfOk, length, slice_index, unsigned_abs};
+ghost use Rattle.std.specs.Prelude.{◌≡◌, ℕ, ◌+◌, ◌*◌, ◌^◌, ◌<◌, ◌≤◌, IfOk, length, slice_index, ◌-ℤ◌, unsigned_abs};
+ghost use Rattle.cal_limits.specs.declared.TheConstants.{MOST_ENERGY};
 ghost use Rattle.cef_core.specs.Mixing.{mixing_at};
 ghost use Rattle.cef_core.specs.Phases.{IsPhase};
 ghost use Rattle.cef_mix.specs.Mixes.{mixing_of_phase, IsLeastOn};
 
+use crate::least::Least;
 use crate::table::Table;
 use cal_log::Logs;
 use cef_core::PhaseAt;
@@ -66,13 +68,25 @@ impl Mix {
         self.tables[sublattice].h(k)
     }
 
-    /// The least of 2^16 times the energy of mixing less the slope's share of the count, from the low to the high count.
-    pub fn least_on(&self, sublattice: usize, low: u16, high: u16, slope: i128) -> i128
+    /// How much more the energy of mixing is at a high count than at a low one, in µJ per mol of formula units.
+    pub fn rise(&self, sublattice: usize, low: u16, high: u16) -> i64
+        requires sublattice { sublattice < length self.now.ratios }
+        requires low { low ≤ self.now.lattice }
+        requires high { high ≤ self.now.lattice }
+        ensures exact { result ≡ mixing_at self.now.t self.now.lattice (slice_index self.now.ratios sublattice) high -ℤ mixing_at self.now.t self.now.lattice (slice_index self.now.ratios sublattice) low }
+        ensures size { unsigned_abs result ≤ 2 * MOST_ENERGY }
+    {
+        self.tables[sublattice].rise(low, high)
+    }
+
+    /// The least of 2^16 times the energy of mixing less the slope's share of the count, from the low to the high count, and
+    /// where it is.
+    pub fn least_on(&self, sublattice: usize, low: u16, high: u16, slope: i128) -> Least
         requires sublattice { sublattice < length self.now.ratios }
         requires order { low ≤ high }
         requires within { high ≤ self.now.lattice }
         requires slope { unsigned_abs slope * self.now.lattice ≤ 2 ^ 119 }
-        ensures { IsLeastOn (mixing_at self.now.t self.now.lattice (slice_index self.now.ratios sublattice)) slope low high result }
+        ensures { IsLeastOn (mixing_at self.now.t self.now.lattice (slice_index self.now.ratios sublattice)) slope low high result.place result.height }
     {
         self.tables[sublattice].least_on(low, high, slope)
     }

@@ -1,14 +1,13 @@
 //! The energies of mixing of one sublattice, for 0 to N parts.
 
-ghost use Rattle.std.specs.Prelude.{◌≡◌, ℕ, ◌+◌, ◌*◌, ◌-◌, ◌/◌, ◌^◌, ◌<◌, ◌≤◌, IfOk, true, length, ℤ, pos, ◌*ℤ◌, ◌≤ℤ◌, unsigned_abs};
+ghost use Rattle.std.specs.Prelude.{◌≡◌, ℕ, ◌+◌, ◌*◌, ◌-◌, ◌/◌, ◌^◌, ◌≤◌, IfOk, length, ◌-ℤ◌, unsigned_abs};
 ghost use Rattle.std.specs.Bool.{OnTrue};
 ghost use Rattle.cal_limits.specs.declared.TheConstants.{HIGHEST_TEMPERATURE, MOST_RATIOS, MOST_ENERGY, GAS_CONSTANT};
-ghost use Rattle.cal_math.specs.Logarithm.{log_of};
 ghost use Rattle.cef_core.specs.Mixing.{mixing_at};
 ghost use Rattle.cef_mix.specs.Mixes.{IsLeastOn};
-ghost use Rattle.cef_mix.specs.Tables.{entry, IsConvex, AreEnergies};
+ghost use Rattle.cef_mix.specs.Tables.{entry, AreEnergies, AreRises, AreOrdered};
 
-use crate::least::{least_by_halves, least_of_all, rise};
+use crate::least::{Least, least_by_halves, least_of_all};
 use cal_limits::GAS_CONSTANT;
 use cal_log::Logs;
 use std::alloc::{AllocError, Global};
@@ -22,7 +21,9 @@ pub struct Table {
     ratio: u32,
     /// In µJ per mol of formula units.
     energies: Vec<i64>,
-    /// Whether the differences were found not to fall.
+    /// The difference from each energy to the next one, in the same unit.
+    rises: Vec<i64>,
+    /// Whether no difference is below the one before.
     is_convex: bool,
 }
 
@@ -35,11 +36,11 @@ impl Model for Table {
 
     ghost view = { λ b. record { t = b.t; lattice = b.lattice; ratio = b.ratio } };
 
-    ghost invariant = { λ b. IsTable b.t b.lattice b.ratio b.energies.items b.is_convex };
+    ghost invariant = { λ b. IsTable b.t b.lattice b.ratio b.energies.items b.rises.items b.is_convex };
 }
 
 impl Table {
-    /// The table of a sublattice. It takes eight bytes for each of its N + 1 energies.
+    /// The table of a sublattice. It takes 16 bytes for each of its N + 1 energies.
     pub fn build(
         alloc: Global,
         t: u32,
@@ -56,12 +57,14 @@ impl Table {
         ensures { IfOk result (λ table. table ≡ record { t = t; lattice = lattice; ratio = ratio }) }
     {
         let energies = energies_of(alloc, t, lattice, ratio, logs)?;
-        let is_convex = is_convex(energies.as_slice());
+        let rises = rises_of(alloc, energies.as_slice())?;
+        let is_convex = are_ordered(rises.as_slice());
         Ok(Table {
             t,
             lattice,
             ratio,
             energies,
+            rises,
             is_convex,
         })
     }
@@ -81,18 +84,31 @@ impl Table {
         i128::from(self.energies[usize::from(k)])
     }
 
+    /// How much more the energy is at a high count than at a low one.
+    #[tactic(auto, using(crate::proofs::Rises::between))]
+    pub fn rise(&self, low: u16, high: u16) -> i64
+        requires low { low ≤ self.now.lattice }
+        requires high { high ≤ self.now.lattice }
+        ensures exact { result ≡ mixing_at self.now.t self.now.lattice self.now.ratio high -ℤ mixing_at self.now.t self.now.lattice self.now.ratio low }
+        ensures size { unsigned_abs result ≤ 2 * MOST_ENERGY }
+    {
+        let energies = self.energies.as_slice();
+        rise(energies[usize::from(low)], energies[usize::from(high)])
+    }
+
     /// The least of 2^16 times the energy less the slope's share, from the low to the high count.
     #[tactic(auto, using(crate::proofs::Halves::as_mixing))]
-    pub fn least_on(&self, low: u16, high: u16, slope: i128) -> i128
+    pub fn least_on(&self, low: u16, high: u16, slope: i128) -> Least
         requires order { low ≤ high }
         requires within { high ≤ self.now.lattice }
         requires slope { unsigned_abs slope * self.now.lattice ≤ 2 ^ 119 }
-        ensures { IsLeastOn (mixing_at self.now.t self.now.lattice self.now.ratio) slope low high result }
+        ensures { IsLeastOn (mixing_at self.now.t self.now.lattice self.now.ratio) slope low high result.place result.height }
     {
+        let energies = self.energies.as_slice();
         if self.is_convex {
-            least_by_halves(self.energies.as_slice(), low, high, slope)
+            least_by_halves(energies, self.rises.as_slice(), low, high, slope)
         } else {
-            least_of_all(self.energies.as_slice(), low, high, slope)
+            least_of_all(energies, low, high, slope)
         }
     }
 }
@@ -155,15 +171,37 @@ fn spent(t: u32, n: u32, ratio: u32, k: u32, log: u128) -> u128
     energy * u128::from(k) * log / (u128::from(n) * 10_000_000_000_000_000)
 }
 
-/// Whether the differences from one count to the next do not fall.
-fn is_convex(energies: &[i64]) -> bool
+/// The difference from an energy to the next.
+#[tactic(auto, using(crate::proofs::Heights::heights))]
+fn rise(here: i64, next: i64) -> i64
+    requires here { unsigned_abs here ≤ MOST_ENERGY }
+    requires next { unsigned_abs next ≤ MOST_ENERGY }
+    ensures exact { result ≡ next -ℤ here }
+    ensures size { unsigned_abs result ≤ 2 * MOST_ENERGY }
+{
+    next - here
+}
+
+/// The differences from each energy to the next one.
+fn rises_of(alloc: Global, energies: &[i64]) -> Result<Vec<i64>, AllocError>
     requires some { 1 ≤ length energies.now }
     requires small { (k : ℕ) → unsigned_abs (entry energies.now k) ≤ MOST_ENERGY }
-    ensures { OnTrue result (IsConvex (length energies.now - 1) (entry energies.now)) }
+    ensures { IfOk result (λ rises. AreRises energies.now rises.items) }
 {
-    'each: for k in 2..energies.len() {
-        let before = rise(energies[k - 2], energies[k - 1]);
-        let behind = rise(energies[k - 1], energies[k]);
+    let mut rises = Vec::with_capacity(alloc, energies.len() - 1)?;
+    'each: for k in 1..energies.len() {
+        rises.push(rise(energies[k - 1], energies[k]))?;
+    }
+    Ok(rises)
+}
+
+/// Whether no difference is below the one before.
+fn are_ordered(rises: &[i64]) -> bool
+    ensures { OnTrue result (AreOrdered rises.now) }
+{
+    'each: for k in 1..rises.len() {
+        let before = rises[k - 1];
+        let behind = rises[k];
         if behind < before {
             return false;
         }

@@ -7,13 +7,14 @@ use Rattle.std.proofs.lemmas.Int.{ints}
 use Rattle.std.proofs.lemmas.List.{map-append}
 use Rattle.cal_limits.specs.declared.TheConstants.{MOST_ENERGY}
 use Rattle.cal_math.specs.Sums.{sum_of}
+use Rattle.cef_core.specs.declared.phase.MagneticAt.{MagneticAt}
 use Rattle.cef_core.specs.declared.phase.ParamAt.{ParamAt}
 use Rattle.cef_core.specs.declared.phase.PhaseAt.{PhaseAt}
 use Rattle.cef_core.specs.Constitutions.{HasShape}
-use Rattle.cef_core.specs.Energies.{is_energy, energy}
+use Rattle.cef_core.specs.Energies.{is_energy, is_curie, is_moment, sum_of_kind, magnetic_energy, energy}
 use Rattle.cef_core.specs.Mixing.{mixing_over}
 use Rattle.cef_core.specs.Parameters.{parameter_value}
-use Rattle.cef_core.specs.Phases.{IsFine, magnitudes}
+use Rattle.cef_core.specs.Phases.{IsFine, magnitudes, magnetic_size}
 use Rattle.cef_core.specs.Shapes.{shape}
 use Rattle.cef_kind.specs.declared.kind.Kind.{Kind}
 use Rattle.cef_box.specs.declared.range.Range.{Range}
@@ -21,9 +22,13 @@ use Rattle.cef_box.specs.Terms.{FitsSite, shape_of_phase}
 use Rattle.cef_mix.specs.Mixes.{Mixing, mixing_of_phase}
 use Rattle.cef_term.specs.declared.param_term.ParamTerm.{ParamTerm}
 use Rattle.cef_phase.specs.Sizes.{energy_size, lattice_size, plus_small, shape_up_to, shape_adds}
-use Rattle.cef_phase.specs.Sums.{AreTerms, IsMixed, IsSum, micros}
+use Rattle.cef_phase.specs.Bounds.{low_of_kind, high_of_kind, magnetic_low_over}
+use Rattle.cef_phase.specs.Kinds.{AreTerms, HasTerms, values_of, lows_of, highs_of, micros}
+use Rattle.cef_phase.specs.MagneticTerms.{MagneticTerm, IsMagneticTerm, IsMagnetism, magnetism_at, magnetism_low, most_magnetic}
+use Rattle.cef_mag.specs.Sums.{AreSummands}
+use Rattle.cef_phase.specs.Sums.{IsMixed, IsSum}
 use Rattle.cef_phase.proofs.Bounding.{bound_below, bound_same}
-use Rattle.cef_term.specs.Bounds.{parameter_low}
+use Rattle.cef_term.specs.Bounds.{parameter_low, parameter_high}
 
 -- one more of the list
 
@@ -51,21 +56,21 @@ all-more P [] x h p = (p, tt)
 all-more P (y ∷ xs) x h p = (h.0, all-more P xs x h.1 p)
 
 -- the terms up to a parameter
-pub record AreTermsUpTo (phase : PhaseAt) (k : ℕ) (terms : List ParamTerm) : Type 0 where
+pub record AreTermsUpTo (is_kind : Kind → Bool) (phase : PhaseAt) (k : ℕ) (terms : List ParamTerm) : Type 0 where
   pub each : AllByRecursion (λ (t : ParamTerm). t.phase.now ≡ phase) terms
-  pub all : map (λ (t : ParamTerm). t.parameter.now) terms ≡ filter (λ p. is_energy p.kind) (take k phase.parameters)
+  pub all : map (λ (t : ParamTerm). t.parameter.now) terms ≡ filter (λ p. is_kind p.kind) (take k phase.parameters)
 
-pub terms-kept : (phase : PhaseAt) (k : ℕ) (terms more : List ParamTerm) (p : ParamAt) (t : ParamTerm) → AreTermsUpTo phase k terms → slice_get phase.parameters k ≡ Some p → is_energy p.kind ≡ true → t.phase.now ≡ phase → slice_get phase.parameters k ≡ Some t.parameter.now → more ≡ terms ++ t ∷ [] → AreTermsUpTo phase (k + 1) more
-terms-kept phase k terms more p t h e yes_it of_phase is m =
+pub terms-kept : (is_kind : Kind → Bool) (phase : PhaseAt) (k : ℕ) (terms more : List ParamTerm) (p : ParamAt) (t : ParamTerm) → AreTermsUpTo is_kind phase k terms → slice_get phase.parameters k ≡ Some p → is_kind p.kind ≡ true → t.phase.now ≡ phase → slice_get phase.parameters k ≡ Some t.parameter.now → more ≡ terms ++ t ∷ [] → AreTermsUpTo is_kind phase (k + 1) more
+terms-kept is_kind phase k terms more p t h e yes_it of_phase is m =
     let same : p ≡ t.parameter.now = cc in
-    let kind : is_energy t.parameter.now.kind ≡ true = subst (λ (q : ParamAt). is_energy q.kind ≡ true) same yes_it in
+    let kind : is_kind t.parameter.now.kind ≡ true = subst (λ (q : ParamAt). is_kind q.kind ≡ true) same yes_it in
     rw m (record {
       each = all-more (λ (t : ParamTerm). t.phase.now ≡ phase) terms t h.each of_phase;
-      all = map-append (λ (t : ParamTerm). t.parameter.now) terms (t ∷ []) ∙ ap (λ (ps : List ParamAt). ps ++ t.parameter.now ∷ []) h.all ∙ rw add-one (sym (filter-kept (λ p. is_energy p.kind) phase.parameters k t.parameter.now is kind));
+      all = map-append (λ (t : ParamTerm). t.parameter.now) terms (t ∷ []) ∙ ap (λ (ps : List ParamAt). ps ++ t.parameter.now ∷ []) h.all ∙ rw add-one (sym (filter-kept (λ p. is_kind p.kind) phase.parameters k t.parameter.now is kind));
     })
 
-pub terms-left : (phase : PhaseAt) (k : ℕ) (terms : List ParamTerm) (p : ParamAt) → AreTermsUpTo phase k terms → slice_get phase.parameters k ≡ Some p → is_energy p.kind ≡ false → AreTermsUpTo phase (k + 1) terms
-terms-left phase k terms p h e no_it = record { each = h.each; all = h.all ∙ rw add-one (sym (filter-left (λ p. is_energy p.kind) phase.parameters k p e no_it)) }
+pub terms-left : (is_kind : Kind → Bool) (phase : PhaseAt) (k : ℕ) (terms : List ParamTerm) (p : ParamAt) → AreTermsUpTo is_kind phase k terms → slice_get phase.parameters k ≡ Some p → is_kind p.kind ≡ false → AreTermsUpTo is_kind phase (k + 1) terms
+terms-left is_kind phase k terms p h e no_it = record { each = h.each; all = h.all ∙ rw add-one (sym (filter-left (λ p. is_kind p.kind) phase.parameters k p e no_it)) }
 
 -- the sum of values up to a term
 pub record IsSumUpTo (f : ParamTerm → ℤ) (terms : List ParamTerm) (k : ℕ) (total : ℤ) : Type 0 where
@@ -85,10 +90,12 @@ pub total_fits : (total x : ℤ) (k : ℕ) → k < 2 ^ 64 → unsigned_abs total
 total_fits total x k few h s = omega (arith, ints, plus_small total x (MOST_ENERGY * k) MOST_ENERGY h s)
 
 -- the whole of it
-terms_sum : (phase : PhaseAt) (terms : List ParamTerm) (site : List (List ℕ)) → AllByRecursion (λ (t : ParamTerm). t.phase.now ≡ phase) terms →
-    sum_of (λ t. parameter_value t.phase.now.lattice t.parameter.now site) terms ≡ sum_of (λ p. parameter_value phase.lattice p site) (map (λ (t : ParamTerm). t.parameter.now) terms)
-terms_sum phase [] site h = refl
-terms_sum phase (t ∷ terms) site h = rw (h.0, terms_sum phase terms site h.1) refl
+values_are : (is_kind : Kind → Bool) (phase : PhaseAt) (terms : List ParamTerm) (site : List (List ℕ)) → AreTerms is_kind phase terms → values_of terms site ≡ sum_of_kind is_kind phase site
+values_are is_kind phase terms site h = by_each terms h.each ∙ ap (sum_of (λ p. parameter_value phase.lattice p site)) h.all
+  where
+    by_each : (ts : List ParamTerm) → AllByRecursion (λ (t : ParamTerm). t.phase.now ≡ phase) ts → values_of ts site ≡ sum_of (λ p. parameter_value phase.lattice p site) (map (λ (t : ParamTerm). t.parameter.now) ts)
+    by_each [] each = refl
+    by_each (t ∷ ts) each = rw (each.0, by_each ts each.1) refl
 
 all-at : {A : Type 0} (P : A → Type 0) (xs : List A) (k : ℕ) (x : A) → AllByRecursion P xs → slice_get xs k ≡ Some x → P x
 all-at P [] k x h e = absurd cc
@@ -125,10 +132,19 @@ mixed phase fine =
 
 -- the lows, and how large they are
 
-lows_are : (phase : PhaseAt) (terms : List ParamTerm) (box : List (List Range)) → AllByRecursion (λ (t : ParamTerm). t.phase.now ≡ phase) terms →
-    sum_of (λ t. parameter_low t.phase.now.lattice t.parameter.now box) terms ≡ sum_of (λ p. parameter_low phase.lattice p box) (map (λ (t : ParamTerm). t.parameter.now) terms)
-lows_are phase [] box h = refl
-lows_are phase (t ∷ terms) box h = rw (h.0, lows_are phase terms box h.1) refl
+lows_are : (is_kind : Kind → Bool) (phase : PhaseAt) (terms : List ParamTerm) (box : List (List Range)) → AreTerms is_kind phase terms → lows_of terms box ≡ low_of_kind is_kind phase box
+lows_are is_kind phase terms box h = by_each terms h.each ∙ ap (sum_of (λ p. parameter_low phase.lattice p box)) h.all
+  where
+    by_each : (ts : List ParamTerm) → AllByRecursion (λ (t : ParamTerm). t.phase.now ≡ phase) ts → lows_of ts box ≡ sum_of (λ p. parameter_low phase.lattice p box) (map (λ (t : ParamTerm). t.parameter.now) ts)
+    by_each [] each = refl
+    by_each (t ∷ ts) each = rw (each.0, by_each ts each.1) refl
+
+highs_are : (is_kind : Kind → Bool) (phase : PhaseAt) (terms : List ParamTerm) (box : List (List Range)) → AreTerms is_kind phase terms → highs_of terms box ≡ high_of_kind is_kind phase box
+highs_are is_kind phase terms box h = by_each terms h.each ∙ ap (sum_of (λ p. parameter_high phase.lattice p box)) h.all
+  where
+    by_each : (ts : List ParamTerm) → AllByRecursion (λ (t : ParamTerm). t.phase.now ≡ phase) ts → highs_of ts box ≡ sum_of (λ p. parameter_high phase.lattice p box) (map (λ (t : ParamTerm). t.parameter.now) ts)
+    by_each [] each = refl
+    by_each (t ∷ ts) each = rw (each.0, by_each ts each.1) refl
 
 abbrev magnitude_sum : List ParamAt → ℕ
 magnitude_sum [] = 0
@@ -146,8 +162,8 @@ kept_magnitudes is_kind (p ∷ ps) = by (is_kind p.kind) refl (kept_magnitudes i
     by true f rest = rw f (ap (λ (n : ℕ). unsigned_abs p.micro + n) rest)
     by false f rest = rw f (omega (arith, rest))
 
-micros_small : (phase : PhaseAt) (terms : List ParamTerm) → IsFine phase → AreTerms phase terms → micros terms ≤ MOST_ENERGY
-micros_small phase terms fine h = omega (arith, micros_are terms, ap magnitude_sum h.all, kept_magnitudes is_energy phase.parameters, fine.keeps.energies)
+micros_of : (is_kind : Kind → Bool) (phase : PhaseAt) (terms : List ParamTerm) → AreTerms is_kind phase terms → micros terms ≡ magnitudes is_kind phase.parameters
+micros_of is_kind phase terms h = micros_are terms ∙ ap magnitude_sum h.all ∙ kept_magnitudes is_kind phase.parameters
 
 pub micros-more : (terms : List ParamTerm) (k : ℕ) (t : ParamTerm) → slice_get terms k ≡ Some t → micros (take (suc k) terms) ≡ micros (take k terms) + unsigned_abs t.parameter.now.micro
 micros-more [] k t e = absurd cc
@@ -175,23 +191,125 @@ pub low_fits : (f : ParamTerm → ℤ) (terms : List ParamTerm) (k : ℕ) (total
 low_fits f terms k total x t h e small room =
     omega (arith, ints, plus_small total x (micros (take k terms)) (unsigned_abs t.parameter.now.micro) h.size small, micros-more terms k t e, micros-le terms (suc k), room)
 
-whole : (phase : PhaseAt) (terms : List ParamTerm) (site : List (List ℕ)) → phase.magnetic ≡ None → AreTerms phase terms →
-    sum_of (λ t. parameter_value t.phase.now.lattice t.parameter.now site) terms +ℤ mixing_over phase.t phase.lattice phase.ratios site ≡ energy phase site
-unfolding energy
-whole phase terms site none h =
-    rw none (rw (terms_sum phase terms site h.each, h.all) (omega (arith, ints)))
+-- the sums of the parts have room
+pub others_fit : (mixing magnetism : ℤ) (most n : ℕ) → unsigned_abs mixing ≤ MOST_ENERGY → unsigned_abs magnetism ≤ most → n + most ≤ MOST_ENERGY → FitsSigned w128 (mixing +ℤ magnetism)
+others_fit mixing magnetism most n h g room = omega (arith, ints, plus_small mixing magnetism MOST_ENERGY most h g, room)
 
-pub is_sum : (phase : PhaseAt) (terms : List ParamTerm) (mix : Mixing) → IsFine phase → phase.magnetic ≡ None → AreTerms phase terms → mix ≡ mixing_of_phase phase → IsSum phase terms mix
-is_sum phase terms mix fine none h m = rw m (record {
-  fits = λ site shape k t e. rw (all-at (λ (t : ParamTerm). t.phase.now ≡ phase) terms k t h.each e) (site_fits phase site shape);
-  mixed = mixed phase fine;
-  each = λ site shape. omega (arith, shape_length phase.lattice phase.sites site shape, fine.keeps.ratio_each);
-  within = λ site shape. shape_adds phase.lattice phase.sites site shape;
-  energy_is = λ site shape. whole phase terms site none h;
-  energy_small = λ site shape. energy_size phase site fine none shape;
-  fits_box = λ box fits k t e. rw (all-at (λ (t : ParamTerm). t.phase.now ≡ phase) terms k t h.each e) fits;
-  micros_small = micros_small phase terms fine h;
-  lows_are = λ box. lows_are phase terms box h.each ∙ ap (sum_of (λ p. parameter_low phase.lattice p box)) h.all;
-  below = λ potentials box multipliers site fits member. bound_below phase terms potentials box multipliers site fine.keeps.ratio_each none h fits member;
-  exactly = λ potentials box multipliers site fits member single. bound_same phase terms potentials box multipliers site fine.keeps.ratio_each none h fits member single;
-})
+pub parts_fit : (parameters mixing magnetism others : ℤ) (most n : ℕ) → unsigned_abs parameters ≤ 2 ^ 120 → unsigned_abs mixing ≤ MOST_ENERGY → unsigned_abs magnetism ≤ most → n + most ≤ MOST_ENERGY → others ≡ mixing +ℤ magnetism → FitsSigned w128 (parameters +ℤ others)
+parts_fit parameters mixing magnetism others most n f h g room e =
+    omega (arith, ints, plus_small mixing magnetism MOST_ENERGY most h g, ap unsigned_abs e, plus_small parameters others (2 ^ 120) (MOST_ENERGY + most) f (omega (arith, plus_small mixing magnetism MOST_ENERGY most h g, ap unsigned_abs e)), room)
+
+pub lows_small : (parameters magnetism lows : ℤ) (most n : ℕ) → unsigned_abs parameters ≤ n → unsigned_abs magnetism ≤ most → n + most ≤ MOST_ENERGY → lows ≡ parameters +ℤ magnetism → unsigned_abs lows ≤ MOST_ENERGY
+lows_small parameters magnetism lows most n f g room e = omega (arith, plus_small parameters magnetism n most f g, ap unsigned_abs e, room)
+
+pub lows_fit : (parameters magnetism : ℤ) (most n : ℕ) → unsigned_abs parameters ≤ n → unsigned_abs magnetism ≤ most → n + most ≤ MOST_ENERGY → FitsSigned w128 (parameters +ℤ magnetism)
+lows_fit parameters magnetism most n f g room = omega (arith, ints, plus_small parameters magnetism n most f g, room)
+
+-- ---- magnetism
+
+magnetism_value : (phase : PhaseAt) (k : Option MagneticAt) (magnetism : Option MagneticTerm) (site : List (List ℕ)) → IsMagnetism phase k magnetism → magnetism_at magnetism site ≡ magnetic_energy phase site k
+magnetism_value phase None None site is = refl
+magnetism_value phase (Some k) (Some m) site is =
+    rw (is.phase_is, is.magnetic_is, values_are is_curie phase m.curie.items site is.curie, values_are is_moment phase m.moment.items site is.moments) refl
+magnetism_value phase None (Some m) site is = absurd is
+magnetism_value phase (Some k) None site is = absurd is
+
+magnetism_lowest : (phase : PhaseAt) (k : Option MagneticAt) (magnetism : Option MagneticTerm) (box : List (List Range)) → IsMagnetism phase k magnetism → magnetism_low magnetism box ≡ magnetic_low_over phase box k
+magnetism_lowest phase None None box is = refl
+magnetism_lowest phase (Some k) (Some m) box is =
+    rw (is.phase_is, is.magnetic_is, lows_are is_curie phase m.curie.items box is.curie, highs_are is_curie phase m.curie.items box is.curie, lows_are is_moment phase m.moment.items box is.moments, highs_are is_moment phase m.moment.items box is.moments) refl
+magnetism_lowest phase None (Some m) box is = absurd is
+magnetism_lowest phase (Some k) None box is = absurd is
+
+magnetism_most : (phase : PhaseAt) (k : Option MagneticAt) (magnetism : Option MagneticTerm) → IsMagnetism phase k magnetism → most_magnetic magnetism ≡ magnetic_size phase.t phase.scale k
+magnetism_most phase None None is = refl
+magnetism_most phase (Some k) (Some m) is = rw is.phase_is refl
+magnetism_most phase None (Some m) is = absurd is
+magnetism_most phase (Some k) None is = absurd is
+
+-- the term that is made of a phase
+same_some : (a b : MagneticAt) (m n : Option MagneticAt) → m ≡ Some a → n ≡ Some b → m ≡ n → a ≡ b
+same_some a b m n e f g = cc
+
+pub magnetism_made : (phase : PhaseAt) (k : Option MagneticAt) (n : MagneticAt) (m : MagneticTerm) (curie moments : List ParamTerm) → phase.magnetic ≡ k → k ≡ Some n → m.phase.now ≡ phase → m.curie.items ≡ curie → m.moment.items ≡ moments →
+    AreTerms is_curie phase curie → AreTerms is_moment phase moments → IsMagnetism phase k (Some m)
+magnetism_made phase None n m curie moments p e of_phase c b h g = absurd cc
+magnetism_made phase (Some k) n m curie moments p e of_phase c b h g = record {
+  phase_is = of_phase;
+  magnetic_is = same_some m.magnetic.now k m.phase.now.magnetic phase.magnetic m.of_phase p (ap (λ (q : PhaseAt). q.magnetic) of_phase);
+  curie = rw c h;
+  moments = rw b g;
+}
+
+pub magnetism_none : (phase : PhaseAt) (k : Option MagneticAt) → k ≡ None → IsMagnetism phase k None
+magnetism_none phase None e = tt
+magnetism_none phase (Some k) e = absurd cc
+
+-- its terms have room
+pub summands : (is_kind : Kind → Bool) (phase : PhaseAt) (limit : ℕ) (terms : List ParamTerm) → AreTerms is_kind phase terms → magnitudes is_kind phase.parameters ≤ limit →
+    AreSummands (λ (t : ParamTerm). shape_of_phase t.phase.now) (λ (t : ParamTerm). unsigned_abs t.parameter.now.micro) (shape_of_phase phase) limit terms
+summands is_kind phase limit terms h small = record {
+  shapes = λ k t e. ap shape_of_phase (all-at (λ (t : ParamTerm). t.phase.now ≡ phase) terms k t h.each e);
+  small = omega (arith, micros_of is_kind phase terms h, small);
+}
+
+some_one : {A : Type 0} (a b : A) → Some a ≡ Some b → a ≡ b
+some_one a b e = cc
+
+none_some : {A : Type 0} (a : A) → None ≡ Some a → ⊥
+none_some a e = cc
+
+-- the phase of the term
+magnet_phase : (phase : PhaseAt) (k : Option MagneticAt) (magnetism : Option MagneticTerm) (m : MagneticTerm) → IsMagnetism phase k magnetism → magnetism ≡ Some m → m.phase.now ≡ phase
+magnet_phase phase k None m is e = absurd (none_some m e)
+magnet_phase phase None (Some n) m is e = absurd is
+magnet_phase phase (Some k) (Some n) m is e = subst (λ (o : MagneticTerm). o.phase.now ≡ phase) (some_one n m e) is.phase_is
+
+-- the terms of Curie temperatures and of moments
+abbrev curie_of : Option MagneticTerm → List ParamTerm
+curie_of None = []
+curie_of (Some m) = m.curie.items
+
+abbrev moments_of : Option MagneticTerm → List ParamTerm
+moments_of None = []
+moments_of (Some m) = m.moment.items
+
+curie_are : (phase : PhaseAt) (k : Option MagneticAt) (magnetism : Option MagneticTerm) (n : MagneticAt) → IsMagnetism phase k magnetism → k ≡ Some n → AreTerms is_curie phase (curie_of magnetism)
+curie_are phase None magnetism n is e = absurd cc
+curie_are phase (Some k) None n is e = absurd is
+curie_are phase (Some k) (Some m) n is e = is.curie
+
+moments_are : (phase : PhaseAt) (k : Option MagneticAt) (magnetism : Option MagneticTerm) (n : MagneticAt) → IsMagnetism phase k magnetism → k ≡ Some n → AreTerms is_moment phase (moments_of magnetism)
+moments_are phase None magnetism n is e = absurd cc
+moments_are phase (Some k) None n is e = absurd is
+moments_are phase (Some k) (Some m) n is e = is.moments
+
+-- ---- the sum
+
+energy_adds : (phase : PhaseAt) (site : List (List ℕ)) → sum_of_kind is_energy phase site +ℤ (mixing_over phase.t phase.lattice phase.ratios site +ℤ magnetic_energy phase site phase.magnetic) ≡ energy phase site
+unfolding energy
+energy_adds phase site = refl
+
+pub is_sum : (phase : PhaseAt) (terms : List ParamTerm) (magnetism : Option MagneticTerm) (mix : Mixing) → IsFine phase → AreTerms is_energy phase terms → IsMagnetism phase phase.magnetic magnetism → mix ≡ mixing_of_phase phase → IsSum phase terms magnetism mix
+is_sum phase terms magnetism mix fine h is e =
+    let has : HasTerms phase terms (curie_of magnetism) (moments_of magnetism) = record {
+      keeps = fine.keeps;
+      energies = h;
+      curie = λ m some. curie_are phase phase.magnetic magnetism m is some;
+      moments = λ m some. moments_are phase phase.magnetic magnetism m is some;
+    } in
+    rw e (record {
+      fits = λ site shape k t at_k. rw (all-at (λ (t : ParamTerm). t.phase.now ≡ phase) terms k t h.each at_k) (site_fits phase site shape);
+      fits_magnetism = λ site shape m some. rw (magnet_phase phase phase.magnetic magnetism m is some) (site_fits phase site shape);
+      mixed = mixed phase fine;
+      each = λ site shape. omega (arith, shape_length phase.lattice phase.sites site shape, fine.keeps.ratio_each);
+      within = λ site shape. shape_adds phase.lattice phase.sites site shape;
+      energy_is = λ site shape. rw (values_are is_energy phase terms site h, magnetism_value phase phase.magnetic magnetism site is) (energy_adds phase site);
+      energy_small = λ site shape. energy_size phase site fine shape;
+      fits_box = λ box fits k t at_k. rw (all-at (λ (t : ParamTerm). t.phase.now ≡ phase) terms k t h.each at_k) fits;
+      fits_box_magnetism = λ box fits m some. rw (magnet_phase phase phase.magnetic magnetism m is some) fits;
+      small = omega (arith, micros_of is_energy phase terms h, magnetism_most phase phase.magnetic magnetism is, fine.keeps.energies);
+      lows_are = λ box. rw (lows_are is_energy phase terms box h, magnetism_lowest phase phase.magnetic magnetism box is) refl;
+      below = λ potentials box multipliers site fits member. bound_below phase terms (curie_of magnetism) (moments_of magnetism) potentials box multipliers site has fits member;
+      exactly = λ potentials box multipliers site fits member single. bound_same phase terms (curie_of magnetism) (moments_of magnetism) potentials box multipliers site has fits member single;
+    })

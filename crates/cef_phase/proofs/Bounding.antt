@@ -1,5 +1,5 @@
 -- The bound of a box lies below each member.
-use Rattle.std.proofs.Common.{◌≡◌, ℕ, zero, suc, ◌+◌, ◌-◌, ◌*◌, List, [], ◌∷◌, length, map, arith, refl, sym, ap, ◌∙◌, subst, Option, None}
+use Rattle.std.proofs.Common.{◌≡◌, ℕ, zero, suc, ◌+◌, ◌-◌, ◌*◌, List, [], ◌∷◌, length, map, arith, refl, sym, ap, ◌∙◌, subst, Bool, Option, Some, None}
 use Rattle.std.specs.Prelude.{ℤ, pos, ◌+ℤ◌, ◌-ℤ◌, ◌*ℤ◌, ◌≤ℤ◌, sum, slice_index, slice_index_or}
 use Rattle.std.specs.List.{AllByRecursion}
 use Rattle.std.proofs.lemmas.Int.{ints}
@@ -8,19 +8,23 @@ use Rattle.cal_math.specs.Sums.{sum_of}
 use Rattle.cal_math.specs.Vectors.{at, sum_to}
 use Rattle.cal_math.specs.Whole.{*ℤ-+ℤ, *ℤ_comm, pos-*ℤ-≤}
 use Rattle.cal_math.proofs.Vectors.{dot_same, dot-plus, dot-scale, dot-zero}
+use Rattle.cef_kind.specs.declared.kind.Kind.{Kind}
+use Rattle.cef_core.specs.declared.phase.MagneticAt.{MagneticAt}
 use Rattle.cef_core.specs.declared.phase.PhaseAt.{PhaseAt}
 use Rattle.cef_core.specs.Constitutions.{weight_of, content_of_counts, content_over, content}
-use Rattle.cef_core.specs.Energies.{energy, sum_of_kind, is_energy, magnetic_energy}
+use Rattle.cef_core.specs.Energies.{energy, sum_of_kind, is_energy, is_curie, is_moment, magnetic_energy}
 use Rattle.cef_core.specs.Mixing.{mixing_at, mixing_of_counts, mixing_over}
 use Rattle.cef_core.specs.Parameters.{parameter_value}
+use Rattle.cef_core.specs.Phases.{IsMagnetic, IsPhase}
 use Rattle.cef_core.specs.Shapes.{shape}
 use Rattle.cef_core.specs.Worth.{worth}
 use Rattle.cef_box.specs.declared.range.Range.{Range}
 use Rattle.cef_box.specs.Boxes.{AllWithin, IsInRow, IsMember, IsSingle}
 use Rattle.cef_box.specs.Terms.{FitsBox, shape_of_phase, IsBetween, AreOne}
 use Rattle.cef_mix.specs.Mixes.{height}
-use Rattle.cef_phase.specs.Bounds.{sites_part, row_part, slopes_of, lows_over, bound_of}
-use Rattle.cef_phase.specs.Sums.{AreTerms}
+use Rattle.cef_mag.specs.Laws.{magnetic_between, magnetic_same}
+use Rattle.cef_phase.specs.Bounds.{sites_part, row_part, slopes_of, low_of_kind, high_of_kind, magnetic_low_over, lows_over, bound_of}
+use Rattle.cef_phase.specs.Kinds.{AreTerms, HasTerms}
 use Rattle.cef_phase.proofs.Least.{least_over_is}
 use Rattle.cef_phase.proofs.Slopes.{length-slopes_of}
 use Rattle.cef_term.specs.declared.param_term.ParamTerm.{ParamTerm}
@@ -199,23 +203,67 @@ term_same phase t box site e fits m s =
     subst (λ (p : PhaseAt). AreOne (parameter_low p.lattice t.parameter.now box) (parameter_value p.lattice t.parameter.now site) (parameter_high p.lattice t.parameter.now box)) e
     (t.valid.same box site (subst (λ (p : PhaseAt). FitsBox (shape_of_phase p) box) (sym e) fits) (subst (λ (p : PhaseAt). IsMember p.lattice box site) (sym e) m) s)
 
-terms_below : (phase : PhaseAt) (terms : List ParamTerm) (box : List (List Range)) (site : List (List ℕ)) → AllByRecursion (λ (t : ParamTerm). t.phase.now ≡ phase) terms → FitsBox (shape_of_phase phase) box → IsMember phase.lattice box site →
-    sum_of (λ p. parameter_low phase.lattice p box) (map (λ (t : ParamTerm). t.parameter.now) terms) ≤ℤ sum_of (λ p. parameter_value phase.lattice p site) (map (λ (t : ParamTerm). t.parameter.now) terms)
-terms_below phase [] box site h fits m = omega (arith, ints)
-terms_below phase (t ∷ terms) box site h fits m = omega (arith, ints, (term_between phase t box site h.0 fits m).below, terms_below phase terms box site h.1 fits m)
+terms_between : (phase : PhaseAt) (terms : List ParamTerm) (box : List (List Range)) (site : List (List ℕ)) → AllByRecursion (λ (t : ParamTerm). t.phase.now ≡ phase) terms → FitsBox (shape_of_phase phase) box → IsMember phase.lattice box site →
+    IsBetween (sum_of (λ p. parameter_low phase.lattice p box) (map (λ (t : ParamTerm). t.parameter.now) terms)) (sum_of (λ p. parameter_value phase.lattice p site) (map (λ (t : ParamTerm). t.parameter.now) terms)) (sum_of (λ p. parameter_high phase.lattice p box) (map (λ (t : ParamTerm). t.parameter.now) terms))
+terms_between phase [] box site h fits m = record { below = omega (arith, ints); above = omega (arith, ints) }
+terms_between phase (t ∷ terms) box site h fits m =
+    let first = term_between phase t box site h.0 fits m in
+    let rest = terms_between phase terms box site h.1 fits m in
+    record { below = omega (arith, ints, first.below, rest.below); above = omega (arith, ints, first.above, rest.above) }
 
 terms_same : (phase : PhaseAt) (terms : List ParamTerm) (box : List (List Range)) (site : List (List ℕ)) → AllByRecursion (λ (t : ParamTerm). t.phase.now ≡ phase) terms → FitsBox (shape_of_phase phase) box → IsMember phase.lattice box site → IsSingle box →
-    sum_of (λ p. parameter_low phase.lattice p box) (map (λ (t : ParamTerm). t.parameter.now) terms) ≡ sum_of (λ p. parameter_value phase.lattice p site) (map (λ (t : ParamTerm). t.parameter.now) terms)
-terms_same phase [] box site h fits m s = refl
-terms_same phase (t ∷ terms) box site h fits m s = omega (arith, ints, (term_same phase t box site h.0 fits m s).below, terms_same phase terms box site h.1 fits m s)
+    AreOne (sum_of (λ p. parameter_low phase.lattice p box) (map (λ (t : ParamTerm). t.parameter.now) terms)) (sum_of (λ p. parameter_value phase.lattice p site) (map (λ (t : ParamTerm). t.parameter.now) terms)) (sum_of (λ p. parameter_high phase.lattice p box) (map (λ (t : ParamTerm). t.parameter.now) terms))
+terms_same phase [] box site h fits m s = record { below = refl; above = refl }
+terms_same phase (t ∷ terms) box site h fits m s =
+    let first = term_same phase t box site h.0 fits m s in
+    let rest = terms_same phase terms box site h.1 fits m s in
+    record { below = omega (arith, ints, first.below, rest.below); above = omega (arith, ints, first.above, rest.above) }
 
-lows_below : (phase : PhaseAt) (terms : List ParamTerm) (box : List (List Range)) (site : List (List ℕ)) → phase.magnetic ≡ None → AreTerms phase terms → FitsBox (shape_of_phase phase) box → IsMember phase.lattice box site →
+-- the parameters of one kind
+kind_between : (is_kind : Kind → Bool) (phase : PhaseAt) (terms : List ParamTerm) (box : List (List Range)) (site : List (List ℕ)) → AreTerms is_kind phase terms → FitsBox (shape_of_phase phase) box → IsMember phase.lattice box site →
+    IsBetween (low_of_kind is_kind phase box) (sum_of_kind is_kind phase site) (high_of_kind is_kind phase box)
+kind_between is_kind phase terms box site h fits m = rw h.all at (terms_between phase terms box site h.each fits m)
+
+kind_same : (is_kind : Kind → Bool) (phase : PhaseAt) (terms : List ParamTerm) (box : List (List Range)) (site : List (List ℕ)) → AreTerms is_kind phase terms → FitsBox (shape_of_phase phase) box → IsMember phase.lattice box site → IsSingle box →
+    AreOne (low_of_kind is_kind phase box) (sum_of_kind is_kind phase site) (high_of_kind is_kind phase box)
+kind_same is_kind phase terms box site h fits m s = rw h.all at (terms_same phase terms box site h.each fits m s)
+
+-- magnetism
+magnetism_below : (phase : PhaseAt) (box : List (List Range)) (site : List (List ℕ)) (m : Option MagneticAt) → IsPhase phase → IsMagnetic m →
+    ((k : MagneticAt) → m ≡ Some k → IsBetween (low_of_kind is_curie phase box) (sum_of_kind is_curie phase site) (high_of_kind is_curie phase box)) →
+    ((k : MagneticAt) → m ≡ Some k → IsBetween (low_of_kind is_moment phase box) (sum_of_kind is_moment phase site) (high_of_kind is_moment phase box)) →
+    magnetic_low_over phase box m ≤ℤ magnetic_energy phase site m
+magnetism_below phase box site None keeps is curie moment = omega (arith, ints)
+magnetism_below phase box site (Some m) keeps is curie moment =
+    let x = curie m refl in
+    let y = moment m refl in
+    (magnetic_between phase.t phase.scale m.factor m.p4 (low_of_kind is_curie phase box) (sum_of_kind is_curie phase site) (high_of_kind is_curie phase box) (low_of_kind is_moment phase box) (sum_of_kind is_moment phase site) (high_of_kind is_moment phase box) (omega (arith, keeps.coldest)) is.0 (omega (arith, is.2)) x.below x.above y.below y.above).below
+
+magnetism_same : (phase : PhaseAt) (box : List (List Range)) (site : List (List ℕ)) (m : Option MagneticAt) →
+    ((k : MagneticAt) → m ≡ Some k → AreOne (low_of_kind is_curie phase box) (sum_of_kind is_curie phase site) (high_of_kind is_curie phase box)) →
+    ((k : MagneticAt) → m ≡ Some k → AreOne (low_of_kind is_moment phase box) (sum_of_kind is_moment phase site) (high_of_kind is_moment phase box)) →
+    magnetic_low_over phase box m ≡ magnetic_energy phase site m
+magnetism_same phase box site None curie moment = refl
+magnetism_same phase box site (Some m) curie moment =
+    let x = curie m refl in
+    let y = moment m refl in
+    rw (x.below, x.above, y.below, y.above) (magnetic_same phase.t phase.scale m.factor m.p4 (sum_of_kind is_curie phase site) (sum_of_kind is_moment phase site)).below
+
+lows_below : (phase : PhaseAt) (terms curie moments : List ParamTerm) (box : List (List Range)) (site : List (List ℕ)) → HasTerms phase terms curie moments → FitsBox (shape_of_phase phase) box → IsMember phase.lattice box site →
     lows_over phase box ≤ℤ terms_energy phase site
-lows_below phase terms box site none h fits m = rw none (omega (arith, ints, rw h.all at (terms_below phase terms box site h.each fits m)))
+lows_below phase terms curie moments box site h fits m =
+    let energies = kind_between is_energy phase terms box site h.energies fits m in
+    let magnetism = magnetism_below phase box site phase.magnetic h.keeps h.keeps.magnetic
+    (λ k e. kind_between is_curie phase curie box site (h.curie k e) fits m) (λ k e. kind_between is_moment phase moments box site (h.moments k e) fits m) in
+    omega (arith, ints, energies.below, magnetism)
 
-lows_same : (phase : PhaseAt) (terms : List ParamTerm) (box : List (List Range)) (site : List (List ℕ)) → phase.magnetic ≡ None → AreTerms phase terms → FitsBox (shape_of_phase phase) box → IsMember phase.lattice box site → IsSingle box →
+lows_same : (phase : PhaseAt) (terms curie moments : List ParamTerm) (box : List (List Range)) (site : List (List ℕ)) → HasTerms phase terms curie moments → FitsBox (shape_of_phase phase) box → IsMember phase.lattice box site → IsSingle box →
     lows_over phase box ≡ terms_energy phase site
-lows_same phase terms box site none h fits m s = rw none (omega (arith, ints, rw h.all at (terms_same phase terms box site h.each fits m s)))
+lows_same phase terms curie moments box site h fits m s =
+    let energies = kind_same is_energy phase terms box site h.energies fits m s in
+    let magnetism = magnetism_same phase box site phase.magnetic
+    (λ k e. kind_same is_curie phase curie box site (h.curie k e) fits m s) (λ k e. kind_same is_moment phase moments box site (h.moments k e) fits m s) in
+    omega (arith, ints, energies.below, magnetism)
 
 -- ---- the laws
 
@@ -229,30 +277,30 @@ unfolding bound_of
 bound_is phase potentials box multipliers = refl
 
 -- bound <= 2^16*G - M*b
-pub bound_below : (phase : PhaseAt) (terms : List ParamTerm) (potentials : List ℤ) (box : List (List Range)) (multipliers : List ℤ) (site : List (List ℕ)) → length phase.ratios ≡ length phase.sites → phase.magnetic ≡ None → AreTerms phase terms → FitsBox (shape_of_phase phase) box → IsMember phase.lattice box site →
+pub bound_below : (phase : PhaseAt) (terms curie moments : List ParamTerm) (potentials : List ℤ) (box : List (List Range)) (multipliers : List ℤ) (site : List (List ℕ)) → HasTerms phase terms curie moments → FitsBox (shape_of_phase phase) box → IsMember phase.lattice box site →
     bound_of phase potentials box multipliers ≤ℤ (pos 65536 *ℤ energy phase site -ℤ worth potentials (content phase site))
-bound_below phase terms potentials box multipliers site each none h fits m =
+bound_below phase terms curie moments potentials box multipliers site h fits m =
     omega (
       arith,
       ints,
       bound_is phase potentials box multipliers,
-      rows_below phase.t phase.lattice potentials phase.ratios phase.sites box (at multipliers) site each fits.widths m,
-      pos-*ℤ-≤ 65536 (lows_over phase box) (terms_energy phase site) (lows_below phase terms box site none h fits m),
+      rows_below phase.t phase.lattice potentials phase.ratios phase.sites box (at multipliers) site h.keeps.ratio_each fits.widths m,
+      pos-*ℤ-≤ 65536 (lows_over phase box) (terms_energy phase site) (lows_below phase terms curie moments box site h fits m),
       ap (λ (z : ℤ). pos 65536 *ℤ z) (energy_apart phase site),
       *ℤ-+ℤ (pos 65536) (terms_energy phase site) (mixing_over phase.t phase.lattice phase.ratios site),
       content_is phase potentials site,
     )
 
 -- a box of one list has its height
-pub bound_same : (phase : PhaseAt) (terms : List ParamTerm) (potentials : List ℤ) (box : List (List Range)) (multipliers : List ℤ) (site : List (List ℕ)) → length phase.ratios ≡ length phase.sites → phase.magnetic ≡ None → AreTerms phase terms → FitsBox (shape_of_phase phase) box → IsMember phase.lattice box site → IsSingle box →
+pub bound_same : (phase : PhaseAt) (terms curie moments : List ParamTerm) (potentials : List ℤ) (box : List (List Range)) (multipliers : List ℤ) (site : List (List ℕ)) → HasTerms phase terms curie moments → FitsBox (shape_of_phase phase) box → IsMember phase.lattice box site → IsSingle box →
     bound_of phase potentials box multipliers ≡ pos 65536 *ℤ energy phase site -ℤ worth potentials (content phase site)
-bound_same phase terms potentials box multipliers site each none h fits m s =
+bound_same phase terms curie moments potentials box multipliers site h fits m s =
     omega (
       arith,
       ints,
       bound_is phase potentials box multipliers,
-      rows_same phase.t phase.lattice potentials phase.ratios phase.sites box (at multipliers) site each fits.widths m s,
-      ap (λ (z : ℤ). pos 65536 *ℤ z) (lows_same phase terms box site none h fits m s),
+      rows_same phase.t phase.lattice potentials phase.ratios phase.sites box (at multipliers) site h.keeps.ratio_each fits.widths m s,
+      ap (λ (z : ℤ). pos 65536 *ℤ z) (lows_same phase terms curie moments box site h fits m s),
       ap (λ (z : ℤ). pos 65536 *ℤ z) (energy_apart phase site),
       *ℤ-+ℤ (pos 65536) (terms_energy phase site) (mixing_over phase.t phase.lattice phase.ratios site),
       content_is phase potentials site,

@@ -1,9 +1,11 @@
 pub mod Sublattices
 pub mod Adding
 pub mod Least
-pub mod Rows
+pub mod Parts
 pub mod Slopes
+pub mod Rows
 pub mod Choice
 pub mod Secants
+pub mod Betters
 pub mod Walking
 pub mod Bounding

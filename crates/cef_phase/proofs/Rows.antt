@@ -1,17 +1,51 @@
--- Room for the parts of a bound.
-use Rattle.std.proofs.Common.{◌≡◌, ℕ, ◌+◌, ◌-◌, ◌*◌, ◌<◌, ◌≤◌, ◌^◌, List, ◌∷◌, arith, refl, subst}
-use Rattle.std.specs.Prelude.{ℤ, pos, ◌+ℤ◌, ◌*ℤ◌, unsigned_abs, FitsSigned}
+-- Room for the parts of a bound, and what is known of a row's sites.
+use Rattle.std.proofs.Common.{◌≡◌, ℕ, zero, suc, ◌+◌, ◌*◌, ◌<◌, ◌≤◌, ◌^◌, List, [], ◌∷◌, length, arith, ap}
+use Rattle.std.specs.Prelude.{ℤ, pos, ◌+ℤ◌, ◌*ℤ◌, unsigned_abs, slice_index, FitsSigned}
 use Rattle.std.specs.Int.{w128}
+use Rattle.std.specs.List.{AllByRecursion}
 use Rattle.std.proofs.lemmas.Int.{ints, unsigned_abs-mul, to_z-of_z}
 use Rattle.std.proofs.lemmas.Nat.{mul-le}
 use Rattle.cal_limits.specs.declared.TheConstants.{MOST_ENERGY}
+use Rattle.cef_box.specs.Boxes.{IsRange}
 use Rattle.cef_box.specs.Flat.{ranges}
 use Rattle.cef_mix.specs.Mixes.{Mixing, height, IsLeastOn}
-use Rattle.cef_phase.specs.Bounds.{least_over, sites_part}
+use Rattle.cef_phase.specs.declared.row.Row.{Row}
 use Rattle.cef_phase.specs.Sums.{IsMixable}
-use Rattle.cef_phase.specs.Walks.{mixed_at}
-use Rattle.cef_phase.proofs.Least.{IsLeast, least_over_is, IsLeast_one}
+use Rattle.cef_phase.specs.Walks.{CanRow, mixed_at, ranges_at}
+use Rattle.cef_phase.proofs.Parts.{part_fits, IsPartly_exact, IsPartly_line}
 use Rattle.cef_phase.proofs.Sublattices.{count_size}
+
+-- ---- the range of a site
+
+pub length-ranges_low : (low high : List ℕ) → length (ranges low high) ≤ length low
+length-ranges_low [] high = omega arith
+length-ranges_low (l ∷ low) [] = omega arith
+length-ranges_low (l ∷ low) (h ∷ high) = omega (arith, length-ranges_low low high)
+
+pub length-ranges_high : (low high : List ℕ) → length (ranges low high) ≤ length high
+length-ranges_high [] high = omega arith
+length-ranges_high (l ∷ low) [] = omega arith
+length-ranges_high (l ∷ low) (h ∷ high) = omega (arith, length-ranges_high low high)
+
+ordered_at : (n : ℕ) (low high : List ℕ) (site : ℕ) → AllByRecursion (IsRange n) (ranges low high) → site < length (ranges low high) → slice_index low site ≤ slice_index high site
+ordered_at n [] high site h lt = absurd (omega arith)
+ordered_at n (l ∷ low) [] site h lt = absurd (omega arith)
+ordered_at n (l ∷ low) (b ∷ high) zero h lt = h.0.0
+ordered_at n (l ∷ low) (b ∷ high) (suc site) h lt = ordered_at n low high site h.1 (omega arith)
+
+within_at : (n : ℕ) (low high : List ℕ) (site : ℕ) → AllByRecursion (IsRange n) (ranges low high) → site < length (ranges low high) → slice_index high site ≤ n
+within_at n [] high site h lt = absurd (omega arith)
+within_at n (l ∷ low) [] site h lt = absurd (omega arith)
+within_at n (l ∷ low) (b ∷ high) zero h lt = h.0.1
+within_at n (l ∷ low) (b ∷ high) (suc site) h lt = within_at n low high site h.1 (omega arith)
+
+pub row_order : (row : Row) (site : ℕ) → CanRow (2 ^ 117) row → site < length row.sites.now → slice_index row.low.now site ≤ slice_index row.high.now site
+row_order row site can lt = ordered_at row.mix.now.lattice row.low.now row.high.now site can.within (omega (arith, can.each))
+
+pub row_within : (row : Row) (site : ℕ) → CanRow (2 ^ 117) row → site < length row.sites.now → slice_index row.high.now site ≤ row.mix.now.lattice
+row_within row site can lt = within_at row.mix.now.lattice row.low.now row.high.now site can.within (omega (arith, can.each))
+
+-- ---- room
 
 -- a slope of which n counts are within a limit is within it
 pub slope_alone : (m : ℤ) (n limit : ℕ) → 0 < n → unsigned_abs m * n ≤ limit → unsigned_abs m ≤ limit
@@ -34,42 +68,15 @@ slopes_together a b s n e h g =
 pub slope_fits : (a b s : ℤ) (n : ℕ) → s ≡ a +ℤ b → unsigned_abs a * n ≤ 2 ^ 117 → unsigned_abs b * n ≤ 2 ^ 117 → unsigned_abs s * n ≤ 2 ^ 119
 slope_fits a b s n e h g = omega (arith, slopes_together a b s n e h g)
 
--- the least on a range is the least over it
-pub least_is : (h : ℕ → ℤ) (s x : ℤ) (low high : ℕ) → low ≤ high → IsLeastOn h s low high x → x ≡ least_over (height h s) low (high - low)
-least_is h s x low high le is =
-    let whole : low + (high - low) ≡ high = omega arith in
-    let other : IsLeast (height h s) low high (least_over (height h s) low (high - low)) = subst (λ (top : ℕ). IsLeast (height h s) low top (least_over (height h s) low (high - low))) whole (least_over_is (height h s) low (high - low)) in
-    IsLeast_one (height h s) low high x _ (record { place = is.place; from = is.from; to = is.to; reached = is.reached; below = is.below }) other
-
-pub least_part : (h : ℕ → ℤ) (a b s x : ℤ) (low high : ℕ) → s ≡ a +ℤ b → low ≤ high → IsLeastOn h s low high x → x ≡ least_over (height h (a +ℤ b)) low (high - low)
-least_part h a b s x low high e le is = subst (λ (z : ℤ). x ≡ least_over (height h z) low (high - low)) e (least_is h s x low high le is)
-
-pub least_size : (m : Mixing) (place : ℕ) (s x : ℤ) (low high : ℕ) → IsMixable m → IsLeastOn (mixed_at m place) s low high x → high ≤ m.lattice → unsigned_abs s * m.lattice ≤ 2 ^ 118 → unsigned_abs x ≤ 2 ^ 119
-least_size m place s x low high mixable is le slope =
-    let at : ℕ = is.place in
-    let energy : unsigned_abs (mixed_at m place at) ≤ MOST_ENERGY = count_size m place at mixable (omega (arith, is.to)) in
-    let down : unsigned_abs (s *ℤ pos at) ≤ 2 ^ 118 = rw (unsigned_abs-mul s (pos at)) (omega (arith, slope, mul-le (unsigned_abs s) at (unsigned_abs s) m.lattice (omega arith) (omega (arith, is.to)))) in
+pub least_size : (m : Mixing) (place : ℕ) (s x : ℤ) (low high count : ℕ) → IsMixable m → IsLeastOn (mixed_at m place) s low high count x → high ≤ m.lattice → unsigned_abs s * m.lattice ≤ 2 ^ 118 → unsigned_abs x ≤ 2 ^ 119
+least_size m place s x low high count mixable is le slope =
+    let energy : unsigned_abs (mixed_at m place count) ≤ MOST_ENERGY = count_size m place count mixable (omega (arith, is.to)) in
+    let down : unsigned_abs (s *ℤ pos count) ≤ 2 ^ 118 = rw (unsigned_abs-mul s (pos count)) (omega (arith, slope, mul-le (unsigned_abs s) count (unsigned_abs s) m.lattice (omega arith) (omega (arith, is.to)))) in
     rw is.reached (omega (arith, ints, energy, down))
 
--- one site and those behind it
-pub sites_added : (h : ℕ → ℤ) (l m : ℤ) (slopes rest : List ℤ) (a b : ℕ) (low high rest_low rest_high : List ℕ) (x y z : ℤ) → slopes ≡ m ∷ rest → low ≡ a ∷ rest_low → high ≡ b ∷ rest_high →
-    x ≡ least_over (height h (m +ℤ l)) a (b - a) → y ≡ sites_part h l rest (ranges rest_low rest_high) → z ≡ x +ℤ y → z ≡ sites_part h l slopes (ranges low high)
-sites_added h l m slopes rest a b low high rest_low rest_high x y z es el eh ex ey ez = rw (ez, es, el, eh, ex, ey) refl
+pub row_plus_fits : (row : Row) (a b : ℤ) → CanRow (2 ^ 117) row → unsigned_abs a * row.mix.now.lattice ≤ 2 ^ 117 → unsigned_abs b * row.mix.now.lattice ≤ 2 ^ 117 → FitsSigned w128 (a +ℤ b)
+row_plus_fits row a b can h g = plus_fits row.mix.now a b can.mixable h g
 
-pub sites_fit : (a b : ℤ) (n : ℕ) → n ≤ 90 → unsigned_abs a ≤ 2 ^ 119 → unsigned_abs b ≤ 2 ^ 119 * n → FitsSigned w128 (a +ℤ b)
-sites_fit a b n few h g = omega (arith, ints, abs-+ℤ a b)
+pub ruleset site = (row_order, row_within, row_plus_fits, slopes_together, slope_fits, least_size, to_z-of_z)
 
-pub sites_size : (a b z : ℤ) (n : ℕ) → z ≡ a +ℤ b → unsigned_abs a ≤ 2 ^ 119 → unsigned_abs b ≤ 2 ^ 119 * n → unsigned_abs z ≤ 2 ^ 119 * (n + 1)
-sites_size a b z n e h g = omega (arith, ints, abs-+ℤ a b)
-
-pub row_fits : (a b : ℤ) (n : ℕ) → n ≤ 90 → unsigned_abs a ≤ 2 ^ 117 → unsigned_abs b ≤ 2 ^ 119 * n → FitsSigned w128 (a +ℤ b)
-row_fits a b n few h g = omega (arith, ints, abs-+ℤ a b)
-
-pub row_size : (a b z : ℤ) (n : ℕ) → z ≡ a +ℤ b → unsigned_abs a ≤ 2 ^ 117 → unsigned_abs b ≤ 2 ^ 119 * n → unsigned_abs z ≤ 2 ^ 119 * n + 2 ^ 117
-row_size a b z n e h g = omega (arith, ints, abs-+ℤ a b)
-
-pub ruleset site = (plus_fits, slopes_together, slope_fits, least_part, least_size, to_z-of_z)
-
-pub ruleset sites = (sites_fit, to_z-of_z)
-
-pub ruleset row = (row_fits, row_size, to_z-of_z)
+pub ruleset row = (part_fits, IsPartly_exact, IsPartly_line, to_z-of_z)

@@ -1,25 +1,32 @@
 -- Secants of heights, and room for them; the best of them.
-use Rattle.std.proofs.Common.{◌≡◌, ℕ, ◌+◌, ◌-◌, ◌*◌, ◌<◌, ◌≤◌, ◌^◌, List, [], ◌∷◌, arith, refl, inl, inr, subst, sym, ap, ◌∙◌}
+use Rattle.std.proofs.Common.{◌≡◌, ℕ, ◌+◌, ◌-◌, ◌*◌, ◌<◌, ◌≤◌, ◌^◌, List, [], ◌∷◌, drop, length, arith, refl, inl, inr, subst, sym, ap, ◌∙◌}
 use Rattle.std.specs.Prelude.{ℤ, pos, ◌-ℤ◌, ◌*ℤ◌, ◌≤ℤ◌, ◌<ℤ◌, unsigned_abs, FitsSigned}
 use Rattle.std.specs.Int.{int_div_euclid, w128}
 use Rattle.std.proofs.lemmas.Bool.{lt-ltb, le-ltb, cases_lt}
 use Rattle.std.proofs.lemmas.Int.{ints, to_z-of_z}
 use Rattle.std.proofs.lemmas.Nat.{mul-le}
+use Rattle.std.proofs.lemmas.List.{drop_all}
 use Rattle.cal_limits.specs.declared.TheConstants.{MOST_ENERGY}
+use Rattle.cal_math.specs.Vectors.{at}
 use Rattle.cal_math.specs.Whole.{*ℤ--ℤ, abs-floor-le}
 use Rattle.cef_box.specs.declared.range.Range.{Range}
+use Rattle.cef_box.specs.Flat.{ranges}
 use Rattle.cef_mix.specs.Mixes.{Mixing, height}
 use Rattle.cef_phase.specs.Choosing.{secant, secants, IsFirstGreatest}
 use Rattle.cef_phase.specs.Firsts.{first_greatest}
+use Rattle.cef_phase.specs.declared.row.Row.{Row}
 use Rattle.cef_phase.specs.Sums.{IsMixable}
-use Rattle.cef_phase.specs.Walks.{mixed_at, AreSlopes}
+use Rattle.cef_phase.specs.Walks.{CanRow, mixed_at}
 use Rattle.cef_phase.proofs.Choice.{floor-less, picked_yes, picked_no, first_greatest_is}
 use Rattle.cef_phase.proofs.Sublattices.{count_size}
+use Rattle.cef_phase.proofs.Parts.{range_at, numbers_drop, ranges_drop}
+use Rattle.cef_phase.proofs.Rows.{row_order, row_within}
 
 pub energy_size : (m : Mixing) (place count : ℕ) → IsMixable m → count ≤ m.lattice → unsigned_abs (mixed_at m place count) ≤ MOST_ENERGY
 energy_size m place count mixable h = count_size m place count mixable h
 
-pub ruleset energies = (energy_size, to_z-of_z)
+pub rise_size : (a b : ℤ) → unsigned_abs a ≤ MOST_ENERGY → unsigned_abs b ≤ MOST_ENERGY → unsigned_abs (a -ℤ b) ≤ 2 ^ 56
+rise_size a b h k = omega (arith, ints, h, k)
 
 pub ruleset dividing = (ints, to_z-of_z)
 
@@ -31,12 +38,6 @@ chord_size d width some h =
     abs-floor-le (pos 65536 *ℤ d) (pos width) (2 ^ 72) one (omega (arith, ints, h))
 
 pub ruleset chords = (chord_size, to_z-of_z)
-
-pub rise_size : (a b : ℤ) → unsigned_abs a ≤ MOST_ENERGY → unsigned_abs b ≤ MOST_ENERGY → unsigned_abs (a -ℤ b) ≤ 2 ^ 56
-rise_size a b h k = omega (arith, ints, h, k)
-
-pub rise_fits : (a b : ℤ) → unsigned_abs a ≤ MOST_ENERGY → unsigned_abs b ≤ MOST_ENERGY → FitsSigned w128 (a -ℤ b)
-rise_fits a b h k = omega (arith, ints, h, k)
 
 -- the heights' difference is that of the energies, less the slope times the width
 rise_is : (h : ℕ → ℤ) (m : ℤ) (low high : ℕ) → low < high → height h m high -ℤ height h m low ≡ pos 65536 *ℤ (h high -ℤ h low) -ℤ m *ℤ pos (high - low)
@@ -53,18 +54,22 @@ pub secant_exact : (h : ℕ → ℤ) (m top bottom rise chord x : ℤ) (low high
     x ≡ secant h m (record { low = low; high = high })
 secant_exact h m top bottom rise chord x low high lt et eb er ec ex = rw (ex, ec, er, et, eb) (sym (secant_is h m low high lt))
 
+pub secant_of_rise : (h : ℕ → ℤ) (m rise chord x : ℤ) (low high : ℕ) → low < high → rise ≡ h high -ℤ h low → chord ≡ int_div_euclid (pos 65536 *ℤ rise) (pos (high - low)) → x ≡ chord -ℤ m →
+    x ≡ secant h m (record { low = low; high = high })
+secant_of_rise h m rise chord x low high lt er ec ex = secant_exact h m (h high) (h low) rise chord x low high lt refl refl er ec ex
+
 pub secant_room : (m chord x : ℤ) (n : ℕ) → n ≤ 1000 → x ≡ chord -ℤ m → unsigned_abs chord ≤ 2 ^ 72 → unsigned_abs m * n ≤ 2 ^ 116 → unsigned_abs x * n ≤ 2 ^ 117
 secant_room m chord x n few ex hc hm =
     let both : unsigned_abs x ≤ 2 ^ 72 + unsigned_abs m = omega (arith, ints, hc, ap unsigned_abs ex) in
     let times : unsigned_abs x * n ≤ (2 ^ 72 + unsigned_abs m) * n = mul-le (unsigned_abs x) n (2 ^ 72 + unsigned_abs m) n both (omega arith) in
     omega (arith, times, hm, few)
 
-pub secant_fits : (mix : Mixing) (m chord : ℤ) → IsMixable mix → unsigned_abs chord ≤ 2 ^ 72 → unsigned_abs m * mix.lattice ≤ 2 ^ 116 → FitsSigned w128 (chord -ℤ m)
-secant_fits mix m chord mixable hc hm =
-    let alone : unsigned_abs m ≤ 2 ^ 116 = omega (arith, hm, mul-le (unsigned_abs m) 1 (unsigned_abs m) mix.lattice (omega arith) mixable.some) in
+pub secant_fits : (row : Row) (m chord : ℤ) → CanRow (2 ^ 117) row → unsigned_abs chord ≤ 2 ^ 72 → unsigned_abs m * row.mix.now.lattice ≤ 2 ^ 116 → FitsSigned w128 (chord -ℤ m)
+secant_fits row m chord can hc hm =
+    let alone : unsigned_abs m ≤ 2 ^ 116 = omega (arith, hm, mul-le (unsigned_abs m) 1 (unsigned_abs m) row.mix.now.lattice (omega arith) can.mixable.some) in
     omega (arith, ints, hc, alone)
 
-pub ruleset sloping = (secant_exact, secant_room, secant_fits, rise_size, rise_fits, to_z-of_z)
+pub ruleset sloping = (secant_of_rise, secant_room, secant_fits, row_order, row_within, to_z-of_z)
 
 -- ---- the comparison of parts is that of the multipliers
 
@@ -73,8 +78,6 @@ better_taken f x y a b ea eb lt = sym (picked_yes f x y (subst (λ (z : ℤ). z 
 
 pub better_left : (f : ℤ → ℤ) (x y a b : ℤ) → a ≡ f x → b ≡ f y → b ≤ℤ a → x ≡ first_greatest f x (y ∷ [])
 better_left f x y a b ea eb le = sym (picked_no f x y (subst (λ (z : ℤ). f y ≤ℤ z) ea (subst (λ (z : ℤ). z ≤ℤ a) eb le)))
-
-pub ruleset choosing = (better_taken, better_left, to_z-of_z)
 
 pub secants_on : (h : ℕ → ℤ) (m : ℤ) (slopes : List ℤ) (r : Range) (row : List Range) → r.low < r.high → secants h (m ∷ slopes) (r ∷ row) ≡ secant h m r ∷ secants h slopes row
 secants_on h m slopes r row lt = rw (lt-ltb r.low r.high lt) refl
@@ -101,16 +104,22 @@ first_on f h m slopes r row x y z ey ez =
           rw (secants_past h m slopes r row le) (ez ∙ ap (λ (w : ℤ). first_greatest f w (secants h slopes row)) here)
     ]
 
--- slopes within half the limit are within the limit
-pub slopes_wider : (n : ℕ) (slopes : List ℤ) → AreSlopes n (2 ^ 116) slopes → AreSlopes n (2 ^ 117) slopes
-slopes_wider n [] h = tt
-slopes_wider n (m ∷ slopes) h = (omega (arith, h.0), slopes_wider n slopes h.1)
-
 pub first_is : (f : ℤ → ℤ) (ys : List ℤ) (x z : ℤ) → x ≡ pos 0 → z ≡ first_greatest f x ys → IsFirstGreatest f (pos 0 ∷ ys) z
 first_is f ys x z ex ez = rw (ez, ex) (first_greatest_is f (pos 0) ys)
 
+-- with the site at a place, and then those behind it
+pub secants_step : (f : ℤ → ℤ) (h : ℕ → ℤ) (slopes : List ℤ) (low high : List ℕ) (site : ℕ) (x y z : ℤ) → site < length slopes → site < length (ranges low high) →
+    y ≡ first_greatest f x (secants h (at slopes site ∷ []) (range_at low high site ∷ [])) → first_greatest f x (secants h (drop site slopes) (drop site (ranges low high))) ≡ z →
+    first_greatest f y (secants h (drop (site + 1) slopes) (drop (site + 1) (ranges low high))) ≡ z
+secants_step f h slopes low high site x y z ls lr ey ez =
+    first_on f h (at slopes site) (drop (site + 1) slopes) (range_at low high site) (drop (site + 1) (ranges low high)) x y _ ey refl ∙ rw (numbers_drop slopes site ls, ranges_drop low high site lr) at ez
+
+pub secants_end : (f : ℤ → ℤ) (h : ℕ → ℤ) (slopes : List ℤ) (row : List Range) (site : ℕ) (x : ℤ) → length slopes ≤ site →
+    first_greatest f x (secants h (drop site slopes) (drop site row)) ≡ first_greatest f (pos 0) (secants h slopes row) → IsFirstGreatest f (pos 0 ∷ secants h slopes row) x
+secants_end f h slopes row site x le e =
+    let none : first_greatest f x (secants h (drop site slopes) (drop site row)) ≡ x = rw (drop_all site slopes le) refl in
+    first_is f (secants h slopes row) (pos 0) x refl (sym none ∙ e)
+
 pub ruleset stepping = (with_secant, without_secant, to_z-of_z)
 
-pub ruleset walking = (first_on, to_z-of_z)
-
-pub ruleset chosen = (slopes_wider, first_is, to_z-of_z)
+pub ruleset chosen = (first_is, to_z-of_z)

@@ -1,5 +1,5 @@
 -- What one count of a site is worth.
-use Rattle.std.proofs.Common.{◌≡◌, ◌≢◌, ℕ, zero, suc, ◌*◌, ◌<◌, ◌≤◌, ◌^◌, List, [], ◌∷◌, Option, Some, None, length, take, arith, refl, sym, ap, ◌∙◌, subst}
+use Rattle.std.proofs.Common.{◌≡◌, ◌≢◌, ℕ, zero, suc, ◌*◌, ◌<◌, ◌≤◌, ◌^◌, List, [], ◌∷◌, Option, Some, None, length, get_or, arith, refl, sym, ap, ◌∙◌, subst}
 use Rattle.std.specs.Prelude.{ℤ, pos, ◌*ℤ◌, unsigned_abs}
 use Rattle.std.specs.List.{AllByRecursion}
 use Rattle.std.proofs.lemmas.Int.{ints, unsigned_abs-mul, to_z-of_z}
@@ -9,7 +9,8 @@ use Rattle.cal_math.specs.Vectors.{at}
 use Rattle.cal_math.proofs.Vectors.{dot_one, dot-zero}
 use Rattle.cef_core.specs.Constitutions.{weight_of}
 use Rattle.cef_phase.specs.Bounds.{slope_of, slopes_of, IsOneOf}
-use Rattle.cef_phase.specs.Walks.{AreSmall, AreSlopes}
+use Rattle.cef_phase.specs.declared.row.Row.{Row}
+use Rattle.cef_phase.specs.Walks.{AreSmall, AreSlopes, slopes_at}
 
 pub share_size : (a : ℤ) (n : ℕ) → unsigned_abs a * n ≤ 2 ^ 117 → unsigned_abs (a *ℤ pos n) ≤ 2 ^ 117
 share_size a n h = rw (unsigned_abs-mul a (pos n)) h
@@ -51,12 +52,29 @@ component_in n d site e h = let there : IsOneOf n (Some d) = subst (IsOneOf n) e
 
 pub ruleset sloping = (vacant, occupied, small_at, component_in, to_z-of_z)
 
--- one more slope
-pub filled : (potentials : List ℤ) (ratio : ℕ) (site : Option ℕ) (sites rest : List (Option ℕ)) (x : ℤ) (out others : List ℤ) → sites ≡ site ∷ rest → out ≡ x ∷ others → x ≡ slope_of potentials ratio site →
-    take (length rest) others ≡ slopes_of potentials ratio rest → take (length sites) out ≡ slopes_of potentials ratio sites
-filled potentials ratio site sites rest x out others es eo ex er = rw (es, eo, ex) (ap (λ (xs : List ℤ). slope_of potentials ratio site ∷ xs) er)
+pub length-slopes_of : (potentials : List ℤ) (ratio : ℕ) (sites : List (Option ℕ)) → length (slopes_of potentials ratio sites) ≡ length sites
+length-slopes_of potentials ratio [] = refl
+length-slopes_of potentials ratio (site ∷ sites) = omega (arith, length-slopes_of potentials ratio sites)
 
-pub ruleset filling = (filled, to_z-of_z)
+-- ---- the slope of a site of a row
+
+pub slope_in : (potentials : List ℤ) (ratio : ℕ) (sites : List (Option ℕ)) (k : ℕ) (x : ℤ) (d : Option ℕ) → k < length sites → x ≡ slope_of potentials ratio (get_or sites k d) → x ≡ at (slopes_of potentials ratio sites) k
+slope_in potentials ratio [] k x d lt is = absurd (omega arith)
+slope_in potentials ratio (s ∷ sites) zero x d lt is = is
+slope_in potentials ratio (s ∷ sites) (suc k) x d lt is = slope_in potentials ratio sites k x d (omega arith) is
+
+pub component_in_place : (n : ℕ) (sites : List (Option ℕ)) (k : ℕ) (d : Option ℕ) → AllByRecursion (IsOneOf n) sites → k < length sites → IsOneOf n (get_or sites k d)
+component_in_place n [] k d h lt = absurd (omega arith)
+component_in_place n (s ∷ sites) zero d h lt = h.0
+component_in_place n (s ∷ sites) (suc k) d h lt = component_in_place n sites k d h.1 (omega arith)
+
+pub row_slopes : (row : Row) (site : ℕ) → site < length row.sites.now → site < length (slopes_at row)
+row_slopes row site lt = omega (arith, length-slopes_of row.potentials.now row.ratio row.sites.now)
+
+pub slope_small : (n limit : ℕ) (slopes : List ℤ) (k : ℕ) (x : ℤ) → k < length slopes → x ≡ at slopes k → AreSlopes n limit slopes → unsigned_abs x * n ≤ limit
+slope_small n limit slopes k x lt e h = rw e (all-at (λ m. unsigned_abs m * n ≤ limit) slopes k h lt)
+
+pub ruleset placing = (slope_in, component_in_place, to_z-of_z)
 
 -- ---- how large slopes are
 
@@ -84,7 +102,3 @@ potential_small limit n total ratio m low one le small =
 pub potentials_small : (limit n total ratio : ℕ) (potentials : List ℤ) → limit ≤ 2 ^ 117 → 1 ≤ n → ratio ≤ total → AllByRecursion (λ m. unsigned_abs m * (n * total) ≤ limit) potentials → AreSmall ratio potentials
 potentials_small limit n total ratio [] low one le small = tt
 potentials_small limit n total ratio (m ∷ potentials) low one le small = (potential_small limit n total ratio m low one le small.0, potentials_small limit n total ratio potentials low one le small.1)
-
-pub length-slopes_of : (potentials : List ℤ) (ratio : ℕ) (sites : List (Option ℕ)) → length (slopes_of potentials ratio sites) ≡ length sites
-length-slopes_of potentials ratio [] = refl
-length-slopes_of potentials ratio (site ∷ sites) = omega (arith, length-slopes_of potentials ratio sites)

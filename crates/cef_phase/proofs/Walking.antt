@@ -1,5 +1,5 @@
 -- The sublattices of a phase, one by one.
-use Rattle.std.proofs.Common.{◌≡◌, ℕ, zero, suc, ◌+◌, ◌-◌, ◌*◌, ◌<◌, ◌≤◌, ◌^◌, List, [], ◌∷◌, Option, Some, length, slice_get, arith, refl, ap, subst}
+use Rattle.std.proofs.Common.{◌≡◌, ℕ, zero, suc, ◌+◌, ◌-◌, ◌*◌, ◌<◌, ◌≤◌, ◌^◌, List, [], ◌∷◌, Option, Some, length, slice_get, arith, refl, ap, subst, sym, ◌∙◌}
 use Rattle.std.specs.Prelude.{ℤ, pos, ◌+ℤ◌, ◌*ℤ◌, unsigned_abs, sum, slice_index, slice_index_or, FitsSigned}
 use Rattle.std.specs.Int.{w128}
 use Rattle.std.specs.List.{AllByRecursion}
@@ -13,10 +13,12 @@ use Rattle.cef_box.specs.declared.range.Range.{Range}
 use Rattle.cef_box.specs.Boxes.{IsRange}
 use Rattle.cef_box.specs.Flat.{ranges}
 use Rattle.cef_mix.specs.Mixes.{Mixing}
-use Rattle.cef_phase.specs.Bounds.{row_part, slopes_of, part_in, lows_over, bound_of, IsOneOf, IsPlane}
-use Rattle.cef_phase.specs.Choosing.{secants, candidates, IsFirstGreatest}
-use Rattle.cef_phase.specs.Walks.{CanWalk, AreSlopes, AreSmall, mixed_at, sites_to}
-use Rattle.cef_phase.proofs.Slopes.{slopes_small, potentials_small, length-slopes_of}
+use Rattle.cef_phase.specs.Bounds.{slopes_of, part_in, lows_over, bound_of, IsOneOf, IsPlane}
+use Rattle.cef_phase.specs.Choosing.{candidates, IsFirstGreatest}
+use Rattle.cef_phase.specs.declared.row.Row.{Row}
+use Rattle.cef_phase.specs.Walks.{CanWalk, CanRow, AreSlopes, AreSmall, part_at, candidates_at, sites_to}
+use Rattle.cef_phase.proofs.Rows.{length-ranges_low, length-ranges_high}
+use Rattle.cef_phase.proofs.Slopes.{slopes_small, potentials_small}
 
 -- what stands at a place
 row-at : {X : Type 0} (P : X → Type 0) (rows : List (List X)) (s : ℕ) → AllByRecursion (AllByRecursion P) rows → AllByRecursion P (slice_index_or rows s [])
@@ -70,36 +72,66 @@ pub slopes_there : (limit : ℕ) (phase : PhaseAt) (mix : Mixing) (box : List (L
 slopes_there limit phase mix box potentials s ratio sites slopes can er es el =
     rw (el, can.mixed.lattice) (slopes_small limit phase.lattice (sum phase.ratios) ratio potentials sites (omega (arith, er, index-le-sum phase.ratios s)) can.plane.small (components_there limit phase mix box potentials s sites can es))
 
-pub few_there : (limit : ℕ) (phase : PhaseAt) (mix : Mixing) (box : List (List Range)) (potentials : List ℤ) (s ratio : ℕ) (sites : List (Option ℕ)) (slopes : List ℤ) → CanWalk limit phase mix box potentials →
-    sites ≡ slice_index_or phase.sites s [] → slopes ≡ slopes_of potentials ratio sites → length slopes ≤ 90
-few_there limit phase mix box potentials s ratio sites slopes can es el =
-    omega (arith, ap length el, length-slopes_of potentials ratio sites, ap length es, width-le phase.sites s, can.mixed.sites)
-
 pub ranges_there : (limit : ℕ) (phase : PhaseAt) (mix : Mixing) (box : List (List Range)) (potentials : List ℤ) (s : ℕ) (low high : List ℕ) → CanWalk limit phase mix box potentials → slice_get box s ≡ Some (ranges low high) →
     AllByRecursion (IsRange mix.lattice) (ranges low high)
 ranges_there limit phase mix box potentials s low high can e =
     rw (can.mixed.lattice, ← row-given box s (ranges low high) e) (row-at (IsRange phase.lattice) box s can.fits.ranges)
 
-pub room_there : (phase : PhaseAt) (s n : ℕ) (sites : List (Option ℕ)) → places phase.sites ≤ n → sites ≡ slice_index_or phase.sites s [] → length sites ≤ n
-room_there phase s n sites h e = omega (arith, h, ap length e, width-le phase.sites s)
+-- ---- the row of a place
 
--- the part of the place
-pub part_there : (limit : ℕ) (phase : PhaseAt) (mix : Mixing) (box : List (List Range)) (potentials : List ℤ) (s ratio : ℕ) (sites : List (Option ℕ)) (slopes : List ℤ) (low high : List ℕ) (l : ℤ) → CanWalk limit phase mix box potentials →
-    ratio ≡ slice_index phase.ratios s → sites ≡ slice_index_or phase.sites s [] → slopes ≡ slopes_of potentials ratio sites → slice_get box s ≡ Some (ranges low high) →
-    row_part mix.lattice (mixed_at mix s) slopes (ranges low high) l ≡ part_in phase potentials box s l
-part_there limit phase mix box potentials s ratio sites slopes low high l can er es el e =
-    rw (can.mixed.t, can.mixed.lattice, can.mixed.ratios, el, er, es, ← row-given box s (ranges low high) e) refl
+-- a row with the parts of a place
+pub record IsRowAt (phase : PhaseAt) (mix : Mixing) (box : List (List Range)) (potentials : List ℤ) (s : ℕ) (row : Row) : Type 0 where
+  pub mix_is : row.mix.now ≡ mix
+  pub place_is : row.place ≡ s
+  pub potentials_is : row.potentials.now ≡ potentials
+  pub ratio_is : row.ratio ≡ slice_index phase.ratios s
+  pub sites_is : row.sites.now ≡ slice_index_or phase.sites s []
+  pub ranges_is : slice_get box s ≡ Some (ranges row.low.now row.high.now)
 
-pub chosen_there : (limit : ℕ) (phase : PhaseAt) (mix : Mixing) (box : List (List Range)) (potentials : List ℤ) (s ratio : ℕ) (sites : List (Option ℕ)) (slopes : List ℤ) (low high : List ℕ) (l : ℤ) → CanWalk limit phase mix box potentials →
-    ratio ≡ slice_index phase.ratios s → sites ≡ slice_index_or phase.sites s [] → slopes ≡ slopes_of potentials ratio sites → slice_get box s ≡ Some (ranges low high) →
-    IsFirstGreatest (row_part mix.lattice (mixed_at mix s) slopes (ranges low high)) (pos 0 ∷ secants (mixed_at mix s) slopes (ranges low high)) l →
-    IsFirstGreatest (part_in phase potentials box s) (candidates phase potentials box s) l
-chosen_there limit phase mix box potentials s ratio sites slopes low high l can er es el e h =
-    rw (can.mixed.t, can.mixed.lattice, can.mixed.ratios, el, er, es, ← row-given box s (ranges low high) e) at h
+width-same : {X Y : Type 0} (xs : List (List X)) (ys : List (List Y)) (s : ℕ) → shape xs ≡ shape ys → length (slice_index_or xs s []) ≡ length (slice_index_or ys s [])
+width-same [] [] s e = refl
+width-same [] (y ∷ ys) s e = absurd cc
+width-same (x ∷ xs) [] s e = absurd cc
+width-same (x ∷ xs) (y ∷ ys) zero e = cc
+width-same (x ∷ xs) (y ∷ ys) (suc s) e = let rest : shape xs ≡ shape ys = cc in width-same xs ys s rest
 
-pub ruleset parts = (ratio_there, table_there, row_there, components_there, small_there, room_there, to_z-of_z)
+pub row_can : (limit : ℕ) (phase : PhaseAt) (mix : Mixing) (box : List (List Range)) (potentials : List ℤ) (s : ℕ) (row : Row) → limit ≤ 2 ^ 117 → CanWalk limit phase mix box potentials → s < length phase.sites →
+    IsRowAt phase mix box potentials s row → CanRow limit row
+row_can limit phase mix box potentials s row low can lt is = record {
+  mixable = rw is.mix_is can.mixed.mixable;
+  place = rw (is.mix_is, is.place_is) (table_there limit phase mix box potentials s can lt);
+  components = rw (is.potentials_is, is.sites_is) (row-at (IsOneOf (length potentials)) phase.sites s can.plane.components);
+  small = rw is.potentials_is (small_there limit phase mix box potentials s row.ratio low can is.ratio_is);
+  slopes = rw (is.mix_is, is.potentials_is) (slopes_there limit phase mix box potentials s row.ratio row.sites.now (slopes_of potentials row.ratio row.sites.now) can is.ratio_is is.sites_is refl);
+  few = omega (arith, ap length is.sites_is, width-le phase.sites s, can.mixed.sites);
+  lows = omega (arith, same, length-ranges_low row.low.now row.high.now);
+  highs = omega (arith, same, length-ranges_high row.low.now row.high.now);
+  each = same;
+  within = rw is.mix_is (ranges_there limit phase mix box potentials s row.low.now row.high.now can is.ranges_is);
+}
+  where
+    same : length (ranges row.low.now row.high.now) ≡ length row.sites.now
+    same = ap length (sym (row-given box s _ is.ranges_is)) ∙ width-same box phase.sites s can.fits.widths ∙ ap length (sym is.sites_is)
 
-pub ruleset choices = (ratio_there, table_there, row_there, components_there, small_there, room_there, to_z-of_z)
+-- its part and its candidates are those of the place
+pub row_part_is : (limit : ℕ) (phase : PhaseAt) (mix : Mixing) (box : List (List Range)) (potentials : List ℤ) (s : ℕ) (row : Row) → CanWalk limit phase mix box potentials → IsRowAt phase mix box potentials s row →
+    (l : ℤ) → part_at row l ≡ part_in phase potentials box s l
+row_part_is limit phase mix box potentials s row can is l =
+    rw (is.mix_is, is.place_is, is.potentials_is, is.ratio_is, is.sites_is, can.mixed.t, can.mixed.lattice, can.mixed.ratios, ← row-given box s (ranges row.low.now row.high.now) is.ranges_is) refl
+
+pub row_candidates_are : (limit : ℕ) (phase : PhaseAt) (mix : Mixing) (box : List (List Range)) (potentials : List ℤ) (s : ℕ) (row : Row) → CanWalk limit phase mix box potentials → IsRowAt phase mix box potentials s row →
+    candidates_at row ≡ candidates phase potentials box s
+row_candidates_are limit phase mix box potentials s row can is =
+    rw (is.mix_is, is.place_is, is.potentials_is, is.ratio_is, is.sites_is, can.mixed.t, can.mixed.lattice, can.mixed.ratios, ← row-given box s (ranges row.low.now row.high.now) is.ranges_is) refl
+
+-- the first greatest of a row's candidates is the chosen one of the place
+pub chosen_there : (f g : ℤ → ℤ) (xs ys : List ℤ) (x : ℤ) → ((l : ℤ) → f l ≡ g l) → xs ≡ ys → IsFirstGreatest f xs x → IsFirstGreatest g ys x
+chosen_there f g xs ys x same e is = record {
+  place = is.place;
+  there = rw (← e) is.there;
+  greatest = λ i y h. rw (← same y, ← same x) (is.greatest i y (rw e h));
+  first = λ i y h lt. rw (← same y, ← same x) (is.first i y (rw e h) lt);
+}
 
 -- what bounds the potentials of a choice bounds those of a bound
 potentials_wider : (n : ℕ) (potentials : List ℤ) → AllByRecursion (λ m. unsigned_abs m * n ≤ 2 ^ 116) potentials → AllByRecursion (λ m. unsigned_abs m * n ≤ 2 ^ 117) potentials
@@ -108,6 +140,9 @@ potentials_wider n (m ∷ potentials) h = (omega (arith, h.0), potentials_wider 
 
 pub plane_wider : (phase : PhaseAt) (potentials : List ℤ) → IsPlane (2 ^ 116) phase potentials → IsPlane (2 ^ 117) phase potentials
 plane_wider phase potentials h = record { components = h.components; small = potentials_wider (phase.lattice * sum phase.ratios) potentials h.small }
+
+pub walk_wider : (phase : PhaseAt) (mix : Mixing) (box : List (List Range)) (potentials : List ℤ) → CanWalk (2 ^ 116) phase mix box potentials → CanWalk (2 ^ 117) phase mix box potentials
+walk_wider phase mix box potentials can = record { mixed = can.mixed; fits = can.fits; plane = plane_wider phase potentials can.plane }
 
 -- ---- the first sublattices together
 
@@ -137,6 +172,12 @@ pub multiplier_at : (n limit : ℕ) (multipliers : List ℤ) (s : ℕ) → AllBy
 multiplier_at n limit [] s h lt = absurd (omega arith)
 multiplier_at n limit (l ∷ multipliers) zero h lt = h.0
 multiplier_at n limit (l ∷ multipliers) (suc s) h lt = multiplier_at n limit multipliers s h.1 (omega arith)
+
+pub ruleset rows = (ratio_there, row_there, to_z-of_z)
+
+pub ruleset parts = (to_z-of_z)
+
+pub ruleset choices = (walk_wider, chosen_there, to_z-of_z)
 
 pub ruleset sums = (to_z-of_z)
 

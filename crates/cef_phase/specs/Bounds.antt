@@ -6,23 +6,40 @@ use Rattle.std.specs.List.{AllByRecursion}
 use Rattle.cal_math.specs.Sums.{sum_of}
 use Rattle.cal_math.specs.Vectors.{at, sum_to}
 use Rattle.cef_kind.specs.declared.kind.Kind.{Kind}
+use Rattle.cef_core.specs.declared.phase.MagneticAt.{MagneticAt}
 use Rattle.cef_core.specs.declared.phase.PhaseAt.{PhaseAt}
 use Rattle.cef_core.specs.Constitutions.{weight_of}
-use Rattle.cef_core.specs.Energies.{is_energy}
+use Rattle.cef_core.specs.Energies.{is_energy, is_curie, is_moment}
 use Rattle.cef_core.specs.Mixing.{mixing_at}
 use Rattle.cef_core.specs.Worth.{worth}
 use Rattle.cef_box.specs.declared.range.Range.{Range}
+use Rattle.cef_mag.specs.Ranges.{magnetic_low}
 use Rattle.cef_mix.specs.Mixes.{height}
-use Rattle.cef_term.specs.Bounds.{parameter_low}
+use Rattle.cef_term.specs.Bounds.{parameter_low, parameter_high}
 
 -- the sum of the lows of the parameters of one kind
 abbrev pub low_of_kind : (Kind → Bool) → PhaseAt → List (List Range) → ℤ
 low_of_kind is_kind phase box =
     sum_of (λ p. parameter_low phase.lattice p box) (filter (λ p. is_kind p.kind) phase.parameters)
 
--- A number that no member has less of in its energy, mixing left out: the sum of the lows of the G parameters.
+-- and the sum of their highs
+abbrev pub high_of_kind : (Kind → Bool) → PhaseAt → List (List Range) → ℤ
+high_of_kind is_kind phase box =
+    sum_of (λ p. parameter_high phase.lattice p box) (filter (λ p. is_kind p.kind) phase.parameters)
+
+-- The low of magnetism: that of the magnetic energy for Curie temperatures and moments from the sums of their lows to those
+-- of their highs. It is 0 for a phase without magnetism.
+abbrev pub magnetic_low_over : PhaseAt → List (List Range) → Option MagneticAt → ℤ
+magnetic_low_over phase box None = pos 0
+magnetic_low_over phase box (Some m) =
+    magnetic_low phase.t phase.scale m.factor m.p4
+    (low_of_kind is_curie phase box) (high_of_kind is_curie phase box)
+    (low_of_kind is_moment phase box) (high_of_kind is_moment phase box)
+
+-- A number that no member has less of in its energy, mixing left out: the sum of the lows of the G parameters, and the low
+-- of magnetism.
 abbrev pub lows_over : PhaseAt → List (List Range) → ℤ
-lows_over phase box = low_of_kind is_energy phase box
+lows_over phase box = low_of_kind is_energy phase box +ℤ magnetic_low_over phase box phase.magnetic
 
 -- the least of f at `low` and at the `more` counts behind it
 abbrev pub lesser : ℤ → ℤ → ℤ

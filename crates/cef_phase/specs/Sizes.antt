@@ -1,5 +1,5 @@
 -- How large energies are: lemmas for proofs.
-use Rattle.std.proofs.Common.{◌≡◌, ℕ, zero, suc, ◌+◌, ◌-◌, ◌*◌, ◌/◌, ◌^◌, ◌≤◌, List, [], ◌∷◌, Option, None, Bool, true, false, length, map, filter, slice_index, refl, arith, ap, ◌∙◌}
+use Rattle.std.proofs.Common.{◌≡◌, ℕ, zero, suc, ◌+◌, ◌-◌, ◌*◌, ◌/◌, ◌^◌, ◌≤◌, List, [], ◌∷◌, Option, Some, None, Bool, true, false, length, map, filter, slice_index, refl, arith, ap, ◌∙◌}
 use Rattle.std.specs.Prelude.{ℤ, pos, neg_ℤ, ◌+ℤ◌, ◌-ℤ◌, ◌*ℤ◌, unsigned_abs, sum, ◌==◌, ◌||◌}
 use Rattle.std.specs.Int.{int_div_euclid}
 use Rattle.std.specs.List.{AllByRecursion, list_any}
@@ -13,15 +13,18 @@ use Rattle.cal_math.specs.Whole.{abs-*ℤ-le}
 use Rattle.cal_math.specs.Logarithm.{log_of}
 use Rattle.cal_log.specs.Laws.{log_of-le, log_of-1000}
 use Rattle.cef_kind.specs.declared.kind.Kind.{Kind}
+use Rattle.cal_limits.specs.declared.TheConstants.{MOST_CURIE, MOST_MOMENT}
 use Rattle.cef_core.specs.declared.lattice.TheConstants.{LATTICES}
+use Rattle.cef_core.specs.declared.phase.MagneticAt.{MagneticAt}
 use Rattle.cef_core.specs.declared.phase.ParamAt.{ParamAt}
 use Rattle.cef_core.specs.declared.phase.PhaseAt.{PhaseAt}
 use Rattle.cef_core.specs.Constitutions.{HasShape}
-use Rattle.cef_core.specs.Energies.{is_energy, sum_of_kind, magnetic_energy, energy}
+use Rattle.cef_core.specs.Energies.{is_energy, is_curie, is_moment, sum_of_kind, magnetic_energy, energy}
 use Rattle.cef_core.specs.Lattices.{is_lattice}
 use Rattle.cef_core.specs.Mixing.{mixing_at, mixing_of_counts, mixing_over}
 use Rattle.cef_core.specs.Parameters.{picked, product_of, product_over, interacting, factor_of, factor_divisor, parameter_value}
-use Rattle.cef_core.specs.Phases.{IsFine, magnitudes, magnetic_size, sigma}
+use Rattle.cef_core.specs.Phases.{IsFine, IsMagnetic, IsPhase, magnitudes, magnetic_size as size_of_magnetism, sigma}
+use Rattle.cef_mag.specs.Laws.{magnetic_size}
 use Rattle.cef_term.proofs.Picking.{interacting_all}
 use Rattle.cef_term.proofs.Sizes.{power_size}
 use Rattle.cef_term.proofs.Values.{floor_size}
@@ -204,13 +207,25 @@ shape_adds n [] (ks ∷ counts) h = absurd h
 shape_adds n (row ∷ sites) [] h = absurd h
 shape_adds n (row ∷ sites) (ks ∷ counts) h = (omega (arith, h.1), shape_adds n sites counts h.2)
 
--- The energy of a list of counts of a phase without magnetism is at most the size of the phase's energies.
-pub energy_size : (phase : PhaseAt) (counts : List (List ℕ)) → IsFine phase → phase.magnetic ≡ None → HasShape phase.lattice phase.sites counts → unsigned_abs (energy phase counts) ≤ sigma phase
+-- magnetism, where it is within its limits
+magnetism_size : (phase : PhaseAt) (counts : List (List ℕ)) (m : Option MagneticAt) → 1 ≤ phase.t → IsMagnetic m →
+    unsigned_abs (sum_of_kind is_curie phase counts) ≤ MOST_CURIE → unsigned_abs (sum_of_kind is_moment phase counts) ≤ MOST_MOMENT →
+    unsigned_abs (magnetic_energy phase counts m) ≤ size_of_magnetism phase.t phase.scale m
+magnetism_size phase counts None warm is curie moment = omega arith
+magnetism_size phase counts (Some m) warm is curie moment =
+    magnetic_size phase.t phase.scale m.factor m.p4 (sum_of_kind is_curie phase counts) (sum_of_kind is_moment phase counts) warm is.2 is.3 curie moment
+
+-- The energy of a list of counts is at most the size of the phase's energies.
+pub energy_size : (phase : PhaseAt) (counts : List (List ℕ)) → IsFine phase → HasShape phase.lattice phase.sites counts → unsigned_abs (energy phase counts) ≤ sigma phase
 unfolding energy
-energy_size phase counts fine none shape =
-    let n = lattice_size phase.lattice fine.keeps.lattice in
-    let parameters : unsigned_abs (sum_of_kind is_energy phase counts) ≤ magnitudes is_energy phase.parameters = parameters_size is_energy phase.lattice phase.parameters counts n.0 (shape_up_to phase.lattice phase.sites counts shape) in
+energy_size phase counts fine shape =
+    let keeps : IsPhase phase = fine.keeps in
+    let n = lattice_size phase.lattice keeps.lattice in
+    let up_to : AreUpTo phase.lattice counts = shape_up_to phase.lattice phase.sites counts shape in
+    let parameters : unsigned_abs (sum_of_kind is_energy phase counts) ≤ magnitudes is_energy phase.parameters = parameters_size is_energy phase.lattice phase.parameters counts n.0 up_to in
+    let curie : unsigned_abs (sum_of_kind is_curie phase counts) ≤ magnitudes is_curie phase.parameters = parameters_size is_curie phase.lattice phase.parameters counts n.0 up_to in
+    let moment : unsigned_abs (sum_of_kind is_moment phase counts) ≤ magnitudes is_moment phase.parameters = parameters_size is_moment phase.lattice phase.parameters counts n.0 up_to in
     let mixing = mixing_size phase.t phase.lattice phase.ratios counts n.0 n.1 (shape_adds phase.lattice phase.sites counts shape) in
-    let no_magnetism : unsigned_abs (magnetic_energy phase counts phase.magnetic) ≤ magnetic_size phase.t phase.scale phase.magnetic = rw none (omega arith) in
-    plus_small (sum_of_kind is_energy phase counts) (mixing_over phase.t phase.lattice phase.ratios counts +ℤ magnetic_energy phase counts phase.magnetic) (magnitudes is_energy phase.parameters) (600000 * phase.t * sum phase.ratios + magnetic_size phase.t phase.scale phase.magnetic) parameters
-    (plus_small (mixing_over phase.t phase.lattice phase.ratios counts) (magnetic_energy phase counts phase.magnetic) (600000 * phase.t * sum phase.ratios) (magnetic_size phase.t phase.scale phase.magnetic) mixing no_magnetism)
+    let magnetism = magnetism_size phase counts phase.magnetic (omega (arith, keeps.coldest)) keeps.magnetic (omega (arith, curie, keeps.curie)) (omega (arith, moment, keeps.moments)) in
+    plus_small (sum_of_kind is_energy phase counts) (mixing_over phase.t phase.lattice phase.ratios counts +ℤ magnetic_energy phase counts phase.magnetic) (magnitudes is_energy phase.parameters) (600000 * phase.t * sum phase.ratios + size_of_magnetism phase.t phase.scale phase.magnetic) parameters
+    (plus_small (mixing_over phase.t phase.lattice phase.ratios counts) (magnetic_energy phase counts phase.magnetic) (600000 * phase.t * sum phase.ratios) (size_of_magnetism phase.t phase.scale phase.magnetic) mixing magnetism)

@@ -3,9 +3,11 @@
 
 mod choose;
 mod law;
+mod magnetism;
 mod mixing;
 mod model;
 mod part;
+mod row;
 mod slope;
 mod sum_phase;
 mod terms;

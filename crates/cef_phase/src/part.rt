@@ -1,89 +1,53 @@
 //! The part of one sublattice in the bound of a box.
 
-ghost use Rattle.std.specs.Prelude.{◌≡◌, ◌≤◌, ◌<◌, ◌+◌, ◌-◌, ◌*◌, ◌^◌, length, ◌+ℤ◌, unsigned_abs};
-ghost use Rattle.std.specs.List.{AllByRecursion};
-ghost use Rattle.cef_box.specs.Boxes.{IsRange};
-ghost use Rattle.cef_box.specs.Flat.{ranges};
-ghost use Rattle.cef_mix.specs.Mixes.{height};
-ghost use Rattle.cef_phase.specs.Bounds.{least_over, sites_part, row_part};
-ghost use Rattle.cef_phase.specs.Sums.{IsMixable};
-ghost use Rattle.cef_phase.specs.Walks.{mixed_at, AreSlopes};
+ghost use Rattle.std.specs.Prelude.{◌≡◌, ◌≤◌, ◌<◌, ◌+◌, ◌*◌, ◌^◌, ℤ, pos, length, slice_index, ◌+ℤ◌, ◌-ℤ◌, ◌*ℤ◌, ◌≤ℤ◌, unsigned_abs};
+ghost use Rattle.cal_math.specs.Vectors.{at};
+ghost use Rattle.cef_mix.specs.Mixes.{IsLeastOn};
+ghost use Rattle.cef_phase.specs.Walks.{CanRow, mixing_of, slopes_at, part_at};
 
-use crate::slope::share;
+use crate::row::Row;
+use crate::slope::{share, slope_at};
 use cal_whole::plus;
-use cef_mix::Mix;
+use cef_mix::Least;
 
-/// A site's part: the least of its height less the multiplier's share, over its range.
+/// The least of a site's height less the multiplier's share, over its range, and a count that has it.
 #[tactic(auto, using(crate::proofs::Rows::site))]
-fn site_part(mix: &Mix, place: usize, slope: i128, low: u16, high: u16, multiplier: i128) -> i128
-    requires mixable { IsMixable mix.now }
-    requires place { place < length mix.now.ratios }
-    requires slope { unsigned_abs slope * mix.now.lattice ≤ 2 ^ 117 }
-    requires multiplier { unsigned_abs multiplier * mix.now.lattice ≤ 2 ^ 117 }
-    requires order { low ≤ high }
-    requires within { high ≤ mix.now.lattice }
-    ensures exact { result ≡ least_over (height (mixed_at mix.now place) (slope +ℤ multiplier)) low (high - low) }
-    ensures size { unsigned_abs result ≤ 2 ^ 119 }
+fn site_least(row: &Row<'_>, site: usize, multiplier: i128) -> Least
+    requires row { CanRow (2 ^ 117) row.now }
+    requires site { site < length row.now.sites.now }
+    requires multiplier { unsigned_abs multiplier * row.now.mix.now.lattice ≤ 2 ^ 117 }
+    ensures least { IsLeastOn (mixing_of row.now) (at (slopes_at row.now) site +ℤ multiplier) (slice_index row.now.low.now site) (slice_index row.now.high.now site) result.place result.height }
+    ensures size { unsigned_abs result.height ≤ 2 ^ 119 }
+    ensures within { result.place ≤ row.now.mix.now.lattice }
 {
-    let both = plus(slope, multiplier);
-    mix.least_on(place, low, high, both)
+    let both = plus(slope_at(row, site), multiplier);
+    row.mix
+        .least_on(row.place, row.low[site], row.high[site], both)
 }
 
-/// The sum of the parts of sites.
-#[tactic(auto, using(crate::proofs::Rows::sites))]
-fn sites_part(
-    mix: &Mix,
-    place: usize,
-    slopes: &[i128],
-    low: &[u16],
-    high: &[u16],
-    multiplier: i128,
-) -> i128
-    requires mixable { IsMixable mix.now }
-    requires place { place < length mix.now.ratios }
-    requires slopes { AreSlopes mix.now.lattice (2 ^ 117) slopes.now }
-    requires few { length slopes.now ≤ 90 }
-    requires multiplier { unsigned_abs multiplier * mix.now.lattice ≤ 2 ^ 117 }
-    requires within { AllByRecursion (IsRange mix.now.lattice) (ranges low.now high.now) }
-    ensures exact { result ≡ sites_part (mixed_at mix.now place) multiplier slopes.now (ranges low.now high.now) }
-    ensures size { unsigned_abs result ≤ 2 ^ 119 * length slopes.now }
-{
-    match slopes.split_first() {
-        None => 0,
-        Some((slope, rest)) => match low.split_first() {
-            None => 0,
-            Some((first_low, rest_low)) => match high.split_first() {
-                None => 0,
-                Some((first_high, rest_high)) => {
-                    let first = site_part(mix, place, *slope, *first_low, *first_high, multiplier);
-                    let others = sites_part(mix, place, rest, rest_low, rest_high, multiplier);
-                    plus(first, others)
-                }
-            },
-        },
-    }
+/// A sublattice's part under a multiplier, and the sum of the counts at which its sites are least.
+#[derive(Clone, Copy)]
+pub struct Part {
+    pub height: i128,
+    pub counts: u32,
 }
 
-/// The part of a sublattice: N times the multiplier, and the parts of its sites.
+/// The part of a sublattice: N times the multiplier, and the least of each site. By how much N is more than the least counts
+/// together, so much does the part rise at most for each further one of the multiplier.
 #[tactic(auto, using(crate::proofs::Rows::row))]
-pub fn row_part(
-    mix: &Mix,
-    place: usize,
-    slopes: &[i128],
-    low: &[u16],
-    high: &[u16],
-    multiplier: i128,
-) -> i128
-    requires mixable { IsMixable mix.now }
-    requires place { place < length mix.now.ratios }
-    requires slopes { AreSlopes mix.now.lattice (2 ^ 117) slopes.now }
-    requires few { length slopes.now ≤ 90 }
-    requires multiplier { unsigned_abs multiplier * mix.now.lattice ≤ 2 ^ 117 }
-    requires within { AllByRecursion (IsRange mix.now.lattice) (ranges low.now high.now) }
-    ensures exact { result ≡ row_part mix.now.lattice (mixed_at mix.now place) slopes.now (ranges low.now high.now) multiplier }
-    ensures size { unsigned_abs result ≤ 2 ^ 119 * length slopes.now + 2 ^ 117 }
+pub fn row_part(row: &Row<'_>, multiplier: i128) -> Part
+    requires row { CanRow (2 ^ 117) row.now }
+    requires multiplier { unsigned_abs multiplier * row.now.mix.now.lattice ≤ 2 ^ 117 }
+    ensures exact { result.height ≡ part_at row.now multiplier }
+    ensures size { unsigned_abs result.height ≤ 2 ^ 119 * length row.now.sites.now + 2 ^ 117 }
+    ensures line { (other : ℤ) → part_at row.now other ≤ℤ (result.height +ℤ (other -ℤ multiplier) *ℤ (pos row.now.mix.now.lattice -ℤ pos result.counts)) }
 {
-    let all = share(multiplier, mix.parts());
-    let sites = sites_part(mix, place, slopes, low, high, multiplier);
-    plus(all, sites)
+    let mut height = share(multiplier, row.mix.parts());
+    let mut counts = 0;
+    'each: for site in 0..row.sites.len() {
+        let least = site_least(row, site, multiplier);
+        height = plus(height, least.height);
+        counts += u32::from(least.place);
+    }
+    Part { height, counts }
 }

@@ -1,9 +1,11 @@
-//! What one count of each site of a sublattice is worth at given potentials.
+//! What one count of a site is worth at given potentials.
 
-ghost use Rattle.std.specs.Prelude.{◌≡◌, ◌≤◌, ◌*◌, ◌^◌, length, take, pos, ◌*ℤ◌, unsigned_abs};
-ghost use Rattle.std.specs.List.{AllByRecursion};
-ghost use Rattle.cef_phase.specs.Bounds.{slope_of, slopes_of, IsOneOf};
-ghost use Rattle.cef_phase.specs.Walks.{AreSmall};
+ghost use Rattle.std.specs.Prelude.{◌≡◌, ℕ, ◌≤◌, ◌<◌, ◌*◌, ◌^◌, length, pos, ◌*ℤ◌, unsigned_abs};
+ghost use Rattle.cal_math.specs.Vectors.{at};
+ghost use Rattle.cef_phase.specs.Bounds.{slope_of, IsOneOf};
+ghost use Rattle.cef_phase.specs.Walks.{AreSmall, AreSlopes, CanRow, slopes_at};
+
+use crate::row::Row;
 
 /// So many times a number.
 #[tactic(auto, using(crate::proofs::Slopes::sharing))]
@@ -28,23 +30,13 @@ fn slope_of(potentials: &[i128], ratio: u32, site: Option<u16>) -> i128
     }
 }
 
-/// Writes the slopes of a sublattice's sites to the front of `out`.
-#[tactic(auto, using(crate::proofs::Slopes::filling))]
-pub fn write_slopes(potentials: &[i128], ratio: u32, sites: &[Option<u16>], out: &mut [i128])
-    requires components { AllByRecursion (IsOneOf (length potentials.now)) sites.now }
-    requires small { AreSmall ratio potentials.now }
-    requires room { length sites.now ≤ length out.old }
-    ensures exact { take (length sites.now) out.new ≡ slopes_of potentials.now ratio sites.now }
-    ensures room { length out.new ≡ length out.old }
+/// The slope of a site of a sublattice.
+#[tactic(auto, using(crate::proofs::Slopes::placing))]
+pub fn slope_at(row: &Row<'_>, site: usize) -> i128
+    requires row { CanRow (2 ^ 117) row.now }
+    requires site { site < length row.now.sites.now }
+    ensures exact { result ≡ at (slopes_at row.now) site }
+    ensures small { (limit : ℕ) → AreSlopes row.now.mix.now.lattice limit (slopes_at row.now) → unsigned_abs result * row.now.mix.now.lattice ≤ limit }
 {
-    match sites.split_first() {
-        None => (),
-        Some((site, rest)) => match out.split_first_mut() {
-            None => (),
-            Some((first, others)) => {
-                *first = slope_of(potentials, ratio, *site);
-                write_slopes(potentials, ratio, rest, others);
-            }
-        },
-    }
+    slope_of(row.potentials, row.ratio, row.sites[site])
 }

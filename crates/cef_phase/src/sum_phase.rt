@@ -1,42 +1,53 @@
-ghost use Rattle.std.specs.Prelude.{◌≡◌, ◌≤◌, IfOk, None};
+ghost use Rattle.std.specs.Prelude.{◌≡◌, ◌≤◌, IfOk};
 ghost use Rattle.cef_core.specs.Phases.{IsFine};
 ghost use Rattle.cef_phase.specs.Sums.{IsSum};
 ghost use Rattle.std.proofs.Props.{props};
 
+use crate::magnetism::{magnetic_value, magnetism_of, sum_of_lows};
 use crate::mixing::mixing_from;
 use crate::model::PhaseModel;
-use crate::terms::{sum_of_lows, sum_of_terms, terms_of};
+use crate::terms::{sum_of_terms, terms_of};
 use crate::walk::{choose_from, parts_to};
-use cal_limits::MOST_SITES;
 use cal_log::Logs;
 use cal_whole::{plus, times};
 use cef_box::BoxRange;
-use cef_core::{PhaseAt, Site};
+use cef_core::{Kind, PhaseAt, Site};
+use cef_mag::MagTerm;
 use cef_mix::Mix;
 use cef_term::ParamTerm;
 use std::alloc::{AllocError, Global};
 
-/// A phase whose energies are the sum of its parts: its parameters and ideal mixing.
+/// A phase whose energies are the sum of its parts: its parameters, magnetism and ideal mixing.
 #[derive(Drop)]
 pub struct SumPhase<'a> {
     phase: &'a PhaseAt,
     /// Those of the parameters that are energies.
     terms: Vec<ParamTerm<'a>>,
+    magnetism: Option<MagTerm<'a, ParamTerm<'a>>>,
     mix: Mix,
-    ghost valid: { IsSum phase.now terms.items mix } by { Prim.hlevel props },
+    ghost valid: { IsSum phase.now terms.items magnetism mix } by { Prim.hlevel props },
 }
 
 impl<'a> SumPhase<'a> {
-    /// The model of a phase without magnetism.
-    pub fn build(alloc: Global, phase: &'a PhaseAt, logs: &Logs) -> Result<SumPhase<'a>, AllocError>
+    /// The model of a phase.
+    pub fn build(
+        alloc: Global,
+        phase: &'a PhaseAt,
+        logs: &'a Logs,
+    ) -> Result<SumPhase<'a>, AllocError>
         requires fine { IsFine phase.now }
-        requires no_magnetism { phase.now.magnetic ≡ None }
         requires reach { 501001 ≤ logs.now }
         ensures { IfOk result (λ model. model.phase.now ≡ phase.now) }
     {
-        let terms = terms_of(alloc, phase)?;
+        let terms = terms_of(alloc, phase, Kind::G)?;
+        let magnetism = magnetism_of(alloc, phase, logs)?;
         let mix = Mix::build(alloc, phase, logs)?;
-        Ok(SumPhase { phase, terms, mix })
+        Ok(SumPhase {
+            phase,
+            terms,
+            magnetism,
+            mix,
+        })
     }
 }
 
@@ -49,13 +60,14 @@ impl<'a> PhaseModel for SumPhase<'a> {
 
     fn value(&self, site: &Site) -> i128 {
         let parameters = sum_of_terms(self.terms.as_slice(), site);
+        let magnetism = magnetic_value(&self.magnetism, site);
         let mixing = mixing_from(&self.mix, site, 0);
-        plus(parameters, mixing)
+        let others = plus(mixing, magnetism);
+        plus(parameters, others)
     }
 
     fn bound(&self, range: &BoxRange, potentials: &[i128], multipliers: &[i128]) -> i128 {
-        let lows = sum_of_lows(self.terms.as_slice(), range);
-        let mut slopes = [0; MOST_SITES];
+        let lows = sum_of_lows(self.terms.as_slice(), &self.magnetism, range);
         let parts = parts_to(
             &self.mix,
             self.phase,
@@ -63,22 +75,12 @@ impl<'a> PhaseModel for SumPhase<'a> {
             potentials,
             multipliers,
             self.phase.sublattices(),
-            slopes.as_mut_slice(),
         );
         plus(times(65536, lows), parts)
     }
 
     fn choose(&self, range: &BoxRange, potentials: &[i128], out: &mut [i128]) {
-        let mut slopes = [0; MOST_SITES];
-        choose_from(
-            &self.mix,
-            self.phase,
-            range,
-            potentials,
-            0,
-            slopes.as_mut_slice(),
-            out,
-        );
+        choose_from(&self.mix, self.phase, range, potentials, 0, out);
     }
 
     ghost below = { λ m potentials box multipliers site fits member. m.valid.below potentials box multipliers site fits member };

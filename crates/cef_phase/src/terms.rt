@@ -1,15 +1,9 @@
 //! The terms of a phase's parameters, and the sum of their values.
 
-ghost use Rattle.std.specs.Prelude.{◌≡◌, ◌≤◌, ◌^◌, ℕ, IfOk, Some, slice_get, unsigned_abs};
-ghost use Rattle.cal_math.specs.Sums.{sum_of};
-ghost use Rattle.cef_core.specs.Energies.{is_energy};
-ghost use Rattle.cef_core.specs.Parameters.{parameter_value};
-ghost use Rattle.cef_core.specs.Phases.{IsFine};
-ghost use Rattle.cef_box.specs.Terms.{FitsBox, FitsSite, shape_of_phase};
+ghost use Rattle.std.specs.Prelude.{◌≡◌, ◌≤◌, ◌^◌, IfOk, unsigned_abs};
+ghost use Rattle.cef_core.specs.Phases.{IsFine, of_kind};
 ghost use Rattle.cal_limits.specs.declared.TheConstants.{MOST_ENERGY};
-ghost use Rattle.cef_term.specs.declared.param_term.ParamTerm.{ParamTerm as Parameter};
-ghost use Rattle.cef_term.specs.Bounds.{parameter_low};
-ghost use Rattle.cef_phase.specs.Sums.{AreTerms, micros};
+ghost use Rattle.cef_phase.specs.Kinds.{AllFit, AllFitBox, AreTerms, lows_of, micros, values_of};
 
 use cal_whole::plus;
 use cef_box::{BoxRange, Term};
@@ -17,24 +11,28 @@ use cef_core::{Kind, PhaseAt, Site};
 use cef_term::ParamTerm;
 use std::alloc::{AllocError, Global};
 
-/// Whether a parameter of the kind adds to the energy.
-fn is_energy(kind: Kind) -> bool
-    ensures { result ≡ is_energy kind }
+/// Whether a parameter of the second kind is wanted.
+fn is_of(wanted: Kind, kind: Kind) -> bool
+    ensures { result ≡ of_kind wanted kind }
 {
-    match kind {
-        Kind::G => true,
-        Kind::Tc | Kind::Beta | Kind::Unread | Kind::Other => false,
+    match (wanted, kind) {
+        (Kind::G, Kind::G) | (Kind::Tc, Kind::Tc) | (Kind::Beta, Kind::Beta) => true,
+        _ => false,
     }
 }
 
-/// The terms of the parameters that are energies.
-pub fn terms_of(alloc: Global, phase: &PhaseAt) -> Result<Vec<ParamTerm<'_>>, AllocError>
+/// The terms of the parameters of a kind.
+pub fn terms_of<'a>(
+    alloc: Global,
+    phase: &'a PhaseAt,
+    kind: Kind,
+) -> Result<Vec<ParamTerm<'a>>, AllocError>
     requires { IsFine phase.now }
-    ensures { IfOk result (λ terms. AreTerms phase.now terms.items) }
+    ensures { IfOk result (λ terms. AreTerms (of_kind kind) phase.now terms.items) }
 {
     let mut terms = Vec::new(alloc);
     'each: for index in 0..phase.parameters().len() {
-        if is_energy(phase.parameters()[index].kind) {
+        if is_of(kind, phase.parameters()[index].kind) {
             terms.push(ParamTerm::new(alloc, phase, index)?)?;
         }
     }
@@ -43,8 +41,8 @@ pub fn terms_of(alloc: Global, phase: &PhaseAt) -> Result<Vec<ParamTerm<'_>>, Al
 
 /// The sum of the values of a phase's terms.
 pub fn sum_of_terms(terms: &[ParamTerm<'_>], site: &Site) -> i128
-    requires { (k : ℕ) (t : Parameter) → slice_get terms.now k ≡ Some t → FitsSite (shape_of_phase t.phase.now) site.now }
-    ensures exact { result ≡ sum_of (λ t. parameter_value t.phase.now.lattice t.parameter.now site.now) terms.now }
+    requires { AllFit terms.now site.now }
+    ensures exact { result ≡ values_of terms.now site.now }
     ensures size { unsigned_abs result ≤ 2 ^ 120 }
 {
     let mut total = 0;
@@ -55,11 +53,11 @@ pub fn sum_of_terms(terms: &[ParamTerm<'_>], site: &Site) -> i128
 }
 
 /// The sum of the lows of a phase's terms over a box.
-pub fn sum_of_lows(terms: &[ParamTerm<'_>], range: &BoxRange) -> i128
-    requires fits { (k : ℕ) (t : Parameter) → slice_get terms.now k ≡ Some t → FitsBox (shape_of_phase t.phase.now) range.now }
+pub fn low_of_terms(terms: &[ParamTerm<'_>], range: &BoxRange) -> i128
+    requires fits { AllFitBox terms.now range.now }
     requires small { micros terms.now ≤ MOST_ENERGY }
-    ensures exact { result ≡ sum_of (λ t. parameter_low t.phase.now.lattice t.parameter.now range.now) terms.now }
-    ensures size { unsigned_abs result ≤ MOST_ENERGY }
+    ensures exact { result ≡ lows_of terms.now range.now }
+    ensures size { unsigned_abs result ≤ micros terms.now }
 {
     let mut total = 0;
     'each: for term in terms {

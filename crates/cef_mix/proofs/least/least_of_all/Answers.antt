@@ -22,15 +22,15 @@ each-preserved c =
     let fits_energy : SFits w64 (entry c.args.energies.now c.each.k) = search rules in
     let fits_here : SFits w128 c.height_of-here.result = search rules in
     let reached : c.height_of-here.result ≡ height (entry c.args.energies.now) c.args.slope c.each.k = simp to_z-of_z at c.height_of-here.ensures in
-    let before : IsLeastOn (entry c.args.energies.now) c.args.slope c.args.low c.each.invariant.0 c.each.least = rw c.each.least-is at (simp to_z-of_z at c.each.invariant.3) in
+    let before : IsLeastOn (entry c.args.energies.now) c.args.slope c.args.low c.each.invariant.0 c.each.place c.each.least = rw c.each.least-is at (simp to_z-of_z at c.each.invariant.3) in
     let next : c.each.k ≡ c.each.invariant.0 + 1 = omega (arith, c.each.invariant.1) in
     elim c.if-here-least.branch [
       | then-here-least w ↦
           let le : c.height_of-here.result ≤ℤ c.each.least = omega (arith, ints, w.if-here-least.true, c.each.least-is) in
-          rw w.least-is (simp to_z-of_z (c.each.k, refl, omega (arith, c.each.invariant.2), IsLeastOn-takes _ _ _ _ _ _ _ next c.each.invariant.2 reached le before))
+          rw (w.least-is, w.place-is) (simp to_z-of_z (c.each.k, refl, omega (arith, c.each.invariant.2), IsLeastOn-takes _ _ _ _ _ _ _ _ next c.each.invariant.2 reached le before))
       | else-here-least w ↦
           let le : c.each.least ≤ℤ c.height_of-here.result = omega (arith, ints, w.if-here-least.false, c.each.least-is) in
-          rw (w.least-is, c.each.least-is) (simp to_z-of_z (c.each.k, refl, omega (arith, c.each.invariant.2), IsLeastOn-keeps _ _ _ _ _ _ _ next reached le before))
+          rw (w.least-is, w.place-is, c.each.least-is) (simp to_z-of_z (c.each.k, refl, omega (arith, c.each.invariant.2), IsLeastOn-keeps _ _ _ _ _ _ _ _ next reached le before))
     ]
 
 pub returns : goal.returns

@@ -2,4 +2,5 @@ use Rattle.cef_phase.proofs.Adding.{is_sum}
 use Rattle.cef_phase.proofs.sum_phase.SumPhase.build.Goals as goal
 
 pub invariant_of-result : goal.invariant_of-result
-invariant_of-result c = record { valid = is_sum c.args.phase.now c.in_ok-terms.terms.items c.in_ok-mix.mix c.requires.fine c.requires.no_magnetism c.in_ok-terms.ensures c.in_ok-mix.ensures }
+invariant_of-result c =
+    record { valid = is_sum c.args.phase.now c.in_ok-terms.terms.items c.in_ok-magnetism.magnetism c.in_ok-mix.mix c.requires.fine c.in_ok-terms.ensures c.in_ok-magnetism.ensures c.in_ok-mix.ensures }

@@ -5,7 +5,7 @@ use Rattle.std.proofs.lemmas.Int.{to_z-of_z}
 use Rattle.std.proofs.lemmas.Option.{slice_get_read}
 use Rattle.cef_term.specs.Bounds.{parameter_low}
 use Rattle.cef_phase.proofs.Adding.{low-more, low_fits}
-use Rattle.cef_phase.proofs.terms.sum_of_lows.Goals as goal
+use Rattle.cef_phase.proofs.terms.low_of_terms.Goals as goal
 
 pub plus-total-requires : goal.plus-total-requires
 plus-total-requires c =
