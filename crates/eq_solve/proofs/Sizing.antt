@@ -23,7 +23,6 @@ use Rattle.cef_phase.specs.Sizes.{energy_size}
 use Rattle.cef_report.specs.declared.entry.Entry.{Entry}
 use Rattle.cef_report.specs.Assemblages.{content_of, energy_of}
 use Rattle.eq_solve.specs.Points.{IsConstitutionOf, IsListOf, IsShaped, IsSized, site_count}
-use Rattle.eq_solve.specs.Modelled.{IsBuilt}
 
 one_of : (n : ℕ) (ls : List ℕ) → list_any (λ l. n == l) ls ≡ true → AllByRecursion (λ l. (10 ≤ l) × (l ≤ 1000)) ls → (10 ≤ n) × (n ≤ 1000)
 one_of n [] is all = absurd cc
@@ -130,8 +129,8 @@ first_phase system is = by_list system.phases refl (omega (arith, is.names.prese
     by_list [] e lt = absurd (omega (arith, lt))
     by_list (phase ∷ phases) e lt = record { phase = phase; is = rw e refl }
 
-pub sized : (system : System) → IsSystem system → IsBuilt system → IsSized system
-sized system is built =
+pub sized : (system : System) → IsSystem system → IsSized system
+sized system is =
     let n : ℕ = length system.elements in
     let W : ℕ = system.widest in
     let first = first_phase system is in
@@ -178,6 +177,5 @@ sized system is built =
     cheap : (entry : Entry) → IsConstitutionOf system entry → unsigned_abs (energy_of system entry) ≤ dearest_of system.phases
     cheap entry c =
         let p : IsPhaseOf system c.phase = all_at (IsPhaseOf system) system.phases entry.phase c.phase is.phases c.is_phase in
-        let no_magnetism : c.phase.magnetic ≡ None = all_at (λ (phase : PhaseAt). phase.magnetic ≡ None) system.phases entry.phase c.phase built c.is_phase in
-        let small : unsigned_abs (energy c.phase entry.site) ≤ sigma c.phase = energy_size c.phase entry.site p.fine no_magnetism c.constitution.shape in
+        let small : unsigned_abs (energy c.phase entry.site) ≤ sigma c.phase = energy_size c.phase entry.site p.fine c.constitution.shape in
         simp c.is_phase (omega (arith, small, le-greatest sigma system.phases entry.phase c.phase c.is_phase))

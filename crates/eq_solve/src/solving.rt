@@ -8,7 +8,6 @@ ghost use Rattle.cef_report.specs.Spelled.{IsSpelled};
 ghost use Rattle.eq_sweep.specs.declared.swept.Swept.TheVariants.{Closed};
 ghost use Rattle.eq_sweep.specs.Sweeps.{IsSweep};
 ghost use Rattle.eq_solve.specs.Answers.{IsFault, IsNear};
-ghost use Rattle.eq_solve.specs.Modelled.{IsBuilt};
 
 use crate::fault::SolveFault;
 use crate::modelled::{Modelled, searches_of, starts_of};
@@ -21,7 +20,6 @@ use std::alloc::Global;
 
 /// The equilibrium of a system for the asked totals, in units of 1/N nmol, with a gap of at most the asked one, in µJ per mol of
 /// components. The budget is the number of splits of boxes that each sweep may make. `models` are those of the system's phases, in order.
-/// No phase has magnetism yet.
 pub fn equilibrium<P: PhaseModel>(
     alloc: Global,
     system: &System,
@@ -31,7 +29,6 @@ pub fn equilibrium<P: PhaseModel>(
     budget: u64,
 ) -> Result<Report, SolveFault>
     requires system { IsSystem system.now }
-    requires built { IsBuilt system.now }
     requires models { map P.phase_of models.now ≡ system.now.phases }
     requires asked { AreAsked system.now asked.now }
     requires gap_low { LEAST_GAP ≤ gap }

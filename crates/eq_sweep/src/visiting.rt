@@ -1,6 +1,7 @@
 //! The visit of a phase: its boxes, depth first and the left one first.
 
-ghost use Rattle.std.specs.Prelude.{◌≡◌, ◌^◌, IfOk};
+ghost use Rattle.std.specs.Prelude.{◌≡◌, ◌≤◌, ◌<◌, ◌^◌, IfOk};
+ghost use Rattle.std.specs.Bool.{OnTrue, OnFalse};
 ghost use Rattle.cef_core.specs.Phases.{IsFine};
 ghost use Rattle.cef_phase.specs.Bounds.{IsPlane};
 ghost use Rattle.eq_sweep.specs.Findings.{IsVisit};
@@ -20,6 +21,14 @@ pub(crate) enum Visit {
     Closed { tree: Tree, after: u64 },
     Below(Site),
     Out,
+}
+
+/// Whether as many splits were made as the budget allows.
+fn is_spent(budget: u64, splits: u64) -> bool
+    ensures yes { OnTrue result (budget ≤ splits) }
+    ensures no { OnFalse result (splits < budget) }
+{
+    budget <= splits
 }
 
 /// How many boxes wait at most for each site: a split makes the width of its range at most half of what it was.
@@ -63,7 +72,7 @@ pub(crate) fn visit_phase<P: PhaseModel>(
             }
             Finding::Below => return Ok(Visit::Below(corner)),
             Finding::Open(cut) => {
-                if budget <= splits {
+                if is_spent(budget, splits) {
                     return Ok(Visit::Out);
                 }
                 splits += 1;

@@ -9,11 +9,11 @@ use Rattle.eq_solve.proofs.Swept.{trees_each, trees_spelled, trees_reported}
 use Rattle.eq_solve.proofs.solving.equilibrium.Goals as goal
 
 pub equilibrium_by_rounds-requires-clause-ready : goal.equilibrium_by_rounds-requires-clause-ready
-equilibrium_by_rounds-requires-clause-ready g c = record { system_is = c.requires.system; built = c.requires.built; models = c.requires.models }
+equilibrium_by_rounds-requires-clause-ready g c = record { system_is = c.requires.system; models = c.requires.models }
 
 pub equilibrium_by_rounds-requires-clause-can : goal.equilibrium_by_rounds-requires-clause-can
 equilibrium_by_rounds-requires-clause-can g c =
-    can_solve c.args.system.now c.args.asked.now c.args.gap (sized c.args.system.now c.requires.system c.requires.built) c.requires.asked c.requires.gap_low c.requires.gap_high
+    can_solve c.args.system.now c.args.asked.now c.args.gap (sized c.args.system.now c.requires.system) c.requires.asked c.requires.gap_low c.requires.gap_high
 
 pub returns-clause-holds : goal.returns-clause-holds
 returns-clause-holds g c =
@@ -30,7 +30,7 @@ returns-clause-near g c =
 pub returns-clause-spelled : goal.returns-clause-spelled
 returns-clause-spelled g c =
     let found = c.in_ok-found.ensures.found in
-    spelled_from c.args.system.now (IsSweep c.args.system.now.phases) c.args.asked.now c.args.gap c.args.budget c.in_ok-found.found c.in_ok-report.report c.requires.system (sized c.args.system.now c.requires.system c.requires.built) c.requires.asked c.requires.gap_high
+    spelled_from c.args.system.now (IsSweep c.args.system.now.phases) c.args.asked.now c.args.gap c.args.budget c.in_ok-found.found c.in_ok-report.report c.requires.system (sized c.args.system.now c.requires.system) c.requires.asked c.requires.gap_high
     found (trees_each c.args.system.now _ _ _ found.closes) (trees_spelled c.args.system.now _ _ _ c.requires.system found.can_sweep found.closes) c.in_ok-report.ensures
 
 pub returns-clause-trees : goal.returns-clause-trees

@@ -43,11 +43,11 @@ returns-in-Below g c =
     let stops : Stops phase c.args.potentials.now c.args.budget c.in-Some.range c.boxes.splits (below c.examine.new.corner) = rw c.in_ok-found.ensures.corner (at_corner c.in-Some.range c.boxes.splits at) in
     goes_stops phase c.args.potentials.now c.args.budget (full_box phase) c.args.used c.boxes.stack.items c.pop.new.self.items c.in-Some.range c.boxes.nodes c.boxes.splits (below c.examine.new.corner) c.in-Some.ensures.items stops c.boxes.invariant.goes
 
-pub returns-then-budget-splits : goal.returns-then-budget-splits
-returns-then-budget-splits g c =
+pub returns-then-is_spent : goal.returns-then-is_spent
+returns-then-is_spent g c =
     let phase = g.P.PhaseModel.phase_of c.args.model.now in
     let opened = subst (IsFinding phase c.args.potentials.now c.in-Some.range) c.in-Open.is c.in_ok-found.ensures.found in
-    goes_stops phase c.args.potentials.now c.args.budget (full_box phase) c.args.used c.boxes.stack.items c.pop.new.self.items c.in-Some.range c.boxes.nodes c.boxes.splits out c.in-Some.ensures.items (at_budget c.in-Some.range c.boxes.splits opened.0 c.if-budget-splits.true) c.boxes.invariant.goes
+    goes_stops phase c.args.potentials.now c.args.budget (full_box phase) c.args.used c.boxes.stack.items c.pop.new.self.items c.in-Some.range c.boxes.nodes c.boxes.splits out c.in-Some.ensures.items (at_budget c.in-Some.range c.boxes.splits opened.0 c.if-is_spent.ensures.yes) c.boxes.invariant.goes
 
 pub push_parts-requires-clause-ready : goal.push_parts-requires-clause-ready
 push_parts-requires-clause-ready g c =
@@ -75,7 +75,7 @@ boxes-preserved g c =
     let written : length c.examine.new.multipliers ≡ length c.boxes.multipliers.items = c.examine.auto.multipliers ∙ ap length c.as_mut_slice.ensures.value in
     let whole : c.boxes.multipliers.len ≡ length c.boxes.multipliers.items = search rules in
     visiting_part phase c.args.potentials.now c.args.budget c.args.used c.boxes.stack.items c.pop.new.self.items c.push_parts.new.stack.items c.in-Some.range c.in-Open.cut c.boxes.nodes c.push-in-Open.new.self c.boxes.splits _ c.boxes.spare.items c.push_parts.new.spare.items c.boxes.corner c.examine.new.corner c.boxes.multipliers.items _
-    c.in-Some.ensures.items c.in_ok-push-in-Open.ensures.ok pushed refl (omega (arith, c.if-budget-splits.false)) opened.0 opened.1 c.in_ok-push_parts-in-Open.ensures.spare c.in_ok-found.ensures.shaped (length_kept c.boxes.multipliers.len c.examine.new.multipliers c.boxes.multipliers.items written whole) c.boxes.invariant
+    c.in-Some.ensures.items c.in_ok-push-in-Open.ensures.ok pushed refl (c.if-is_spent.ensures.no) opened.0 opened.1 c.in_ok-push_parts-in-Open.ensures.spare c.in_ok-found.ensures.shaped (length_kept c.boxes.multipliers.len c.examine.new.multipliers c.boxes.multipliers.items written whole) c.boxes.invariant
 
 pub returns : goal.returns
 returns g c =
