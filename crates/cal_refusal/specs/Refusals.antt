@@ -52,10 +52,6 @@ system_line LatticeTooLarge = plain_line (codes "lattice")
 system_line TooFine = plain_line (codes "fine")
 system_line Memory = []
 
--- a phase is not solved yet
-abbrev pub unbuilt_line : Line
-unbuilt_line = plain_line (codes "unbuilt")
-
 -- a space and the number
 abbrev pub spaced : ℤ → List ℕ
 spaced n = SPACE ∷ signed_decimal n

@@ -5,6 +5,6 @@ mod lines;
 mod numbers;
 mod system;
 
-pub use lines::{LONG, READ, UNBUILT, USAGE, database};
+pub use lines::{LONG, READ, USAGE, database};
 pub use numbers::{gap, infeasible};
 pub use system::system_refusal;

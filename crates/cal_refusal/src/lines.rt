@@ -14,8 +14,6 @@ pub const USAGE: &[u8] = b"refused usage\n";
 pub const READ: &[u8] = b"refused read\n";
 /// A file is longer than its limit.
 pub const LONG: &[u8] = b"refused long\n";
-/// The system has a phase that is not solved yet.
-pub const UNBUILT: &[u8] = b"refused system unbuilt\n";
 
 /// The line of a database's first fault.
 pub fn database(alloc: Global, line: u32, rule: Rule) -> Result<Vec<u8>, AllocError>

@@ -16,9 +16,8 @@ use Rattle.cal_select.specs.Valuations.{Valuation, AreOutcomes}
 use Rattle.cal_select.specs.Selection.{system_of}
 use Rattle.cal_select.specs.Causes.{causes, Answers, Gives}
 use Rattle.cal_select.specs.Causes as reasons
-use Rattle.eq_solve.specs.Modelled.{IsBuilt}
 use Rattle.cal_top.specs.Seen.{Seen}
-use Rattle.cal_top.specs.Equilibria.{amount_beside, asked_of, IsSelected, FromSystem, unbuilt, infeasible, left_open, answered, FromDatabase, refused, selected, FromBytes, bad_database, database}
+use Rattle.cal_top.specs.Equilibria.{amount_beside, asked_of, IsSelected, FromSystem, infeasible, left_open, answered, FromDatabase, refused, selected, FromBytes, bad_database, database}
 use Rattle.cal_top.specs.Replies.{IsAnswerable, FromRequest, unread, too_long, read, Replies, usage, said}
 
 tells_not_lacks : (told : Option Files) (name bytes : List ℕ) → TellsFile told name bytes → LacksFile told name → ⊥
@@ -33,24 +32,23 @@ asked_one request other same system =
     let asked : Job → List ℕ → List ℤ = λ j ns. map (λ name. pos (amount_beside j.elements ns name * j.lattice)) system.elements in
     ap (λ (j : Job). asked j other.amounts) job ∙ ap (asked request.job) amounts
 
-from_system : (system : System) (request : Request) (status : Status) (printed : List ℕ) → IsBuilt system → IsFeasible system (asked_of request system) → system.lists ≤ request.budget → FromSystem system request status printed → status ≡ Done
-from_system system request status printed built feasible enough (unbuilt not_built is_status is_printed) = absurd (not_built built)
-from_system system request status printed built feasible enough (infeasible numbers is none is_status is_printed) = absurd (none.infeasible feasible)
-from_system system request status printed built feasible enough (left_open is left is_status) = absurd (omega (arith, enough, left.open_is.budget_low))
-from_system system request status printed built feasible enough (answered is answer is_status) = is_status
+from_system : (system : System) (request : Request) (status : Status) (printed : List ℕ) → IsFeasible system (asked_of request system) → system.lists ≤ request.budget → FromSystem system request status printed → status ≡ Done
+from_system system request status printed feasible enough (infeasible numbers none is_status is_printed) = absurd (none.infeasible feasible)
+from_system system request status printed feasible enough (left_open left is_status) = absurd (omega (arith, enough, left.open_is.budget_low))
+from_system system request status printed feasible enough (answered answer is_status) = is_status
 
 from_database : (db : Database) (request other : Request) (status : Status) (printed : List ℕ) (outcome : Valuation) → SameRequest other request → AreOutcomes db.functions request.job.t outcome
-    → causes outcome db request.job ≡ [] → IsBuilt (system_of outcome db request.job) → IsFeasible (system_of outcome db request.job) (asked_of request (system_of outcome db request.job))
+    → causes outcome db request.job ≡ [] → IsFeasible (system_of outcome db request.job) (asked_of request (system_of outcome db request.job))
     → (system_of outcome db request.job).lists ≤ other.budget → FromDatabase db other status printed → status ≡ Done
-from_database db request other status printed outcome same outcomes none built feasible enough (refused fault is is_status is_printed) =
+from_database db request other status printed outcome same outcomes none feasible enough (refused fault is is_status is_printed) =
     let answers : Answers db request.job (Err fault) = subst (λ (job : Job). Answers db job (Err fault)) same.job is.first in
     let cause : reasons.first (causes outcome db request.job) ≡ Some fault = answers outcome outcomes is.no_want in
     let nothing : reasons.first (causes outcome db request.job) ≡ None = ap reasons.first none in
     absurd cc
-from_database db request other status printed outcome same outcomes none built feasible enough (selected system is from) =
+from_database db request other status printed outcome same outcomes none feasible enough (selected system is from) =
     let answers : IsSelected db request.job system = subst (λ (job : Job). IsSelected db job system) same.job is in
     let one : system ≡ system_of outcome db request.job = (answers outcome outcomes).1 in
-    from_system (system_of outcome db request.job) other status printed built
+    from_system (system_of outcome db request.job) other status printed
     (subst (λ (asked : List ℤ). IsFeasible (system_of outcome db request.job) asked) (sym (asked_one request other same (system_of outcome db request.job))) feasible)
     enough
     (subst (λ (s : System). FromSystem s other status printed) one from)
@@ -60,7 +58,7 @@ from_bytes : (told : Option Files) (words : List Word) (other : Request) (status
 from_bytes told words other status printed is one apart same (bad_database line rule fault is_status is_printed) = absurd (apart is.bytes is.db line rule is.no_fault fault)
 from_bytes told words other status printed is one apart same (database db of from) =
     let db_is : db ≡ is.db = one is.bytes db is.db of is.no_fault in
-    from_database is.db is.request other status printed is.outcome same is.outcomes is.no_cause is.built is.feasible (subst (λ (b : ℕ). (system_of is.outcome is.db is.request.job).lists ≤ b) (sym same.budget) is.enough)
+    from_database is.db is.request other status printed is.outcome same is.outcomes is.no_cause is.feasible (subst (λ (b : ℕ). (system_of is.outcome is.db is.request.job).lists ≤ b) (sym same.budget) is.enough)
     (subst (λ (d : Database). FromDatabase d other status printed) db_is from)
 
 from_request : (seen : Seen) (words : List Word) (other : Request) (status : Status) (printed : List ℕ) (is : IsAnswerable seen.told words) → OneDatabase → DatabaseOrFault → SameRequest other is.request
@@ -84,10 +82,9 @@ done seen words status printed is one apart no_fault (said other says from) =
 -- ---- no reply ends with the status of a failed write
 
 not_write_fault_system : (system : System) (request : Request) (status : Status) (printed : List ℕ) → FromSystem system request status printed → status ≢ WriteFault
-not_write_fault_system system request status printed (unbuilt not_built is_status is_printed) = λ e. cc
-not_write_fault_system system request status printed (infeasible numbers is none is_status is_printed) = λ e. cc
-not_write_fault_system system request status printed (left_open is left is_status) = λ e. cc
-not_write_fault_system system request status printed (answered is answer is_status) = λ e. cc
+not_write_fault_system system request status printed (infeasible numbers none is_status is_printed) = λ e. cc
+not_write_fault_system system request status printed (left_open left is_status) = λ e. cc
+not_write_fault_system system request status printed (answered answer is_status) = λ e. cc
 
 not_write_fault_database : (db : Database) (request : Request) (status : Status) (printed : List ℕ) → FromDatabase db request status printed → status ≢ WriteFault
 not_write_fault_database db request status printed (refused fault is is_status is_printed) = λ e. cc

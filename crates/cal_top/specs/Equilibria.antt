@@ -25,8 +25,7 @@ use Rattle.eq_sweep.specs.declared.swept.Swept.TheVariants.{Closed}
 use Rattle.eq_sweep.specs.Sweeps.{IsSweep}
 use Rattle.eq_solve.specs.declared.fault.Open.{Open}
 use Rattle.eq_solve.specs.Answers.{IsNear, IsOpen}
-use Rattle.eq_solve.specs.Modelled.{IsBuilt}
-use Rattle.cal_refusal.specs.Refusals.{database_line, system_line, unbuilt_line, infeasible_line, gap_line}
+use Rattle.cal_refusal.specs.Refusals.{database_line, system_line, infeasible_line, gap_line}
 
 -- ---- what is asked
 
@@ -93,15 +92,13 @@ pub record IsLeftOpen (system : System) (request : Request) (printed : List ℕ)
 
 -- The reply over a system.
 pub data FromSystem (system : System) (request : Request) (status : Status) (printed : List ℕ) : Type 0 where
-  -- a phase is not solved yet
-  unbuilt : ¬ IsBuilt system → status ≡ BadSystem → printed ≡ unbuilt_line → FromSystem system request status printed
   -- no constitutions give the asked totals
-  infeasible : (numbers : List ℤ) → IsBuilt system → IsInfeasible system request numbers → status ≡ BadSystem → printed ≡ infeasible_line numbers →
+  infeasible : (numbers : List ℤ) → IsInfeasible system request numbers → status ≡ BadSystem → printed ≡ infeasible_line numbers →
       FromSystem system request status printed
   -- a sweep spent the budget
-  left_open : IsBuilt system → IsLeftOpen system request printed → status ≡ GapNotClosed → FromSystem system request status printed
+  left_open : IsLeftOpen system request printed → status ≡ GapNotClosed → FromSystem system request status printed
   -- the equilibrium
-  answered : IsBuilt system → IsAnswer system request printed → status ≡ Done → FromSystem system request status printed
+  answered : IsAnswer system request printed → status ≡ Done → FromSystem system request status printed
 
 -- The reply over a database.
 pub data FromDatabase (db : Database) (request : Request) (status : Status) (printed : List ℕ) : Type 0 where

@@ -12,7 +12,6 @@ use Rattle.tdb_read.specs.Folding.{IsDatabase}
 use Rattle.cal_select.specs.Valuations.{Valuation, AreOutcomes}
 use Rattle.cal_select.specs.Selection.{system_of}
 use Rattle.cal_select.specs.Causes.{causes}
-use Rattle.eq_solve.specs.Modelled.{IsBuilt}
 use Rattle.cal_refusal.specs.Refusals.{usage_line, read_line, long_line}
 use Rattle.cal_top.specs.Seen.{Seen, IsUnread, IsTooLong, AreBytesOf}
 use Rattle.cal_top.specs.Equilibria.{asked_of, FromBytes}
@@ -53,8 +52,8 @@ pub record RepliedPartly (seen : Seen) (written written_now : Option (List ℕ))
 -- ---- where no cause of a refusal stands
 
 -- The words make the request, and the library tells the bytes of its database, which are a text without a fault. By what gives
--- each ranged text its outcome, no cause stands against the system of the job, all its phases are solved, the asked totals are feasible, and
--- the budget is at least the number of its lists of counts.
+-- each ranged text its outcome, no cause stands against the system of the job, the asked totals are feasible, and the
+-- budget is at least the number of its lists of counts.
 pub record IsAnswerable (told : Option Files) (words : List Word) : Type 0 where
   pub request : Request
   pub says : Says words request
@@ -66,6 +65,5 @@ pub record IsAnswerable (told : Option Files) (words : List Word) : Type 0 where
   pub outcome : Valuation
   pub outcomes : AreOutcomes db.functions request.job.t outcome
   pub no_cause : causes outcome db request.job ≡ []
-  pub built : IsBuilt (system_of outcome db request.job)
   pub feasible : IsFeasible (system_of outcome db request.job) (asked_of request (system_of outcome db request.job))
   pub enough : (system_of outcome db request.job).lists ≤ request.budget

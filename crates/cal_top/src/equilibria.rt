@@ -5,13 +5,11 @@ ghost use Rattle.cal_limits.specs.declared.TheConstants.{MOST_DATABASE_BYTES};
 ghost use Rattle.cal_job.specs.Requests.{IsRequest};
 ghost use Rattle.cef_core.specs.Systems.{IsSystem};
 ghost use Rattle.cef_report.specs.Feasibility.{AreAsked};
-ghost use Rattle.eq_solve.specs.Modelled.{IsBuilt};
 ghost use Rattle.temp_fun.specs.Functions.{AreFunctions};
 ghost use Rattle.cal_refusal.specs.Refusals.{system_line};
 ghost use Rattle.cal_top.specs.Equilibria.{asked_of, FromSystem, FromDatabase, FromBytes};
 
 use crate::asked::totals_asked;
-use crate::built::is_built;
 use crate::models::models_of;
 use crate::open::open_text;
 use crate::reply::Reply;
@@ -19,7 +17,7 @@ use cal_base::Status;
 use cal_job::Request;
 use cal_limits::HIGHEST_TEMPERATURE;
 use cal_log::Logs;
-use cal_refusal::{UNBUILT, database, infeasible, system_refusal};
+use cal_refusal::{database, infeasible, system_refusal};
 use cal_select::{SystemFault, system};
 use cef_core::System;
 use cef_phase::PhaseModel;
@@ -38,7 +36,6 @@ fn by_models<P: PhaseModel>(
 ) -> Result<Reply, AllocError>
     requires request { IsRequest request.now }
     requires system { IsSystem system.now }
-    requires built { IsBuilt system.now }
     requires models { map P.phase_of models.now ≡ system.now.phases }
     requires asked { AreAsked system.now (asked_of request.now system.now) }
     ensures { IfOk result (λ reply. FromSystem system.now request.now reply.status reply.text.items) }
@@ -91,10 +88,6 @@ fn over_system(
     requires asked { AreAsked system.now (asked_of request.now system.now) }
     ensures { IfOk result (λ reply. FromSystem system.now request.now reply.status reply.text.items) }
 {
-    if !is_built(system) {
-        let reply = Reply::refusal(alloc, Status::BadSystem, UNBUILT)?;
-        return Ok(reply);
-    }
     let models = models_of(alloc, system.phases.as_slice(), logs)?;
     let reply = by_models(alloc, request, system, models.as_slice())?;
     Ok(reply)

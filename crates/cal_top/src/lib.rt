@@ -2,7 +2,6 @@
 #![tactic(auto)]
 
 mod asked;
-mod built;
 mod equilibria;
 mod models;
 mod open;

@@ -2,7 +2,7 @@
 
 ghost use Rattle.std.specs.Prelude.{◌≡◌, ◌≤◌, All, IfOk, map};
 ghost use Rattle.cal_limits.specs.declared.TheConstants.{HIGHEST_TEMPERATURE};
-ghost use Rattle.cal_top.specs.Building.{HasModel};
+ghost use Rattle.cef_core.specs.Phases.{IsFine};
 
 use cal_log::Logs;
 use cef_core::PhaseAt;
@@ -13,9 +13,9 @@ use std::alloc::{AllocError, Global};
 pub(crate) fn models_of<'a>(
     alloc: Global,
     phases: &'a [PhaseAt],
-    logs: &Logs,
+    logs: &'a Logs,
 ) -> Result<Vec<SumPhase<'a>>, AllocError>
-    requires phases { All HasModel phases.now }
+    requires phases { All IsFine phases.now }
     requires logs { HIGHEST_TEMPERATURE ≤ logs.now }
     ensures { IfOk result (λ models. map (λ model. model.phase.now) models.items ≡ phases.now) }
 {

@@ -85,7 +85,7 @@ fn answer(alloc: Global, row: &str) -> Result<String, AllocError> {
     let words = words_of(alloc, parts.next().unwrap_or(""))?;
     let mut files = MemoryLibrary::new(alloc);
     files.add("DB", bytes.as_slice())?;
-    let mut out = MemorySink::new(alloc, 4096, 65536)?;
+    let mut out = MemorySink::new(alloc, 4096, 1 << 20)?;
     let status = run(alloc, words.as_slice(), &mut files, &mut out).number();
     let text = marked(alloc, out.written())?;
     match parts.next() {

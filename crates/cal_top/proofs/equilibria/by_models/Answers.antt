@@ -16,7 +16,7 @@ returns-in-Err-Infeasible g c =
     subst (λ (r : Result Report SolveFault). IfErr r (λ f. IsFault c.args.system.now (IsSweep c.args.system.now.phases) c.as_slice-2.result.now c.args.request.now.gap c.args.request.now.budget f)) whole c.equilibrium-found.ensures.fault in
     let asked : c.as_slice-2.result.now ≡ asked_of c.args.request.now c.args.system.now = search rules in
     let at_asked = rw asked at fault in
-    infeasible c.in-Err-Infeasible.numbers.items c.requires.built (record { shown = at_asked.0; infeasible = at_asked.1 }) refl (search rules)
+    infeasible c.in-Err-Infeasible.numbers.items (record { shown = at_asked.0; infeasible = at_asked.1 }) refl (search rules)
 
 pub open_text-requires-clause-phase : goal.open_text-requires-clause-phase
 open_text-requires-clause-phase g c =
@@ -39,4 +39,4 @@ returns-in-Err-GapNotClosed g c =
     subst (λ (r : Result Report SolveFault). IfErr r (λ f. IsFault c.args.system.now (IsSweep c.args.system.now.phases) c.as_slice-2.result.now c.args.request.now.gap c.args.request.now.budget f)) whole c.equilibrium-found.ensures.fault in
     let asked : c.as_slice-2.result.now ≡ asked_of c.args.request.now c.args.system.now = search rules in
     let at_asked = rw asked at fault in
-    left_open c.requires.built (record { left = c.in-Err-GapNotClosed.left; open_is = at_asked.0; feasible = at_asked.1; printed_is = search rules }) refl
+    left_open (record { left = c.in-Err-GapNotClosed.left; open_is = at_asked.0; feasible = at_asked.1; printed_is = search rules }) refl
