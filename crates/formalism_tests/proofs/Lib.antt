@@ -1,1 +1,2 @@
-pub mod Fixtures
+mod Boxes
+mod Phases

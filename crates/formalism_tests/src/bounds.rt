@@ -1,18 +1,18 @@
 //! Bounds of boxes, and the multipliers that are chosen for them.
 
-ghost use Rattle.std.specs.Prelude.{◌≡◌, ◌∷◌, [], ◌^◌, IfOk, None, length};
+ghost use Rattle.std.specs.Prelude.{◌≡◌, ◌∷◌, [], ◌^◌, IfOk, length};
 ghost use Rattle.cef_core.specs.Phases.{IsFine};
 ghost use Rattle.cef_core.specs.Shapes.{shape};
 ghost use Rattle.cef_box.specs.Flat.{ranges};
 ghost use Rattle.cef_box.specs.Terms.{FitsBox, shape_of_phase};
 ghost use Rattle.cef_phase.specs.Bounds.{IsPlane};
+ghost use Rattle.sample_phases.specs.Samples.{HasPlanes};
 
-use crate::boxes::are_ranges;
-use crate::fixture::ideal_solution_of_10;
 use cal_log::Logs;
 use cef_box::BoxRange;
 use cef_core::PhaseAt;
 use cef_phase::{PhaseModel, SumPhase};
+use sample_phases::{are_ranges, magnetic_pair, pair};
 use std::alloc::{AllocError, Global};
 use std::test::Fail;
 
@@ -26,7 +26,7 @@ struct Bounded {
     bound: i128,
 }
 
-#[tactic(auto, using(crate::proofs::Fixtures::planes))]
+#[tactic(auto, using(crate::proofs::Boxes::planes))]
 fn choose_and_bound(
     alloc: Global,
     phase: &PhaseAt,
@@ -34,7 +34,6 @@ fn choose_and_bound(
     potentials: &[i128],
 ) -> Result<Bounded, Fail>
     requires fine { IsFine phase.now }
-    requires plain { phase.now.magnetic ≡ None }
     requires sites { shape phase.now.sites ≡ 2 ∷ [] }
     requires fits { FitsBox (shape_of_phase phase.now) range.now }
     requires plane { IsPlane (2 ^ 116) phase.now potentials.now }
@@ -50,18 +49,26 @@ fn choose_and_bound(
     })
 }
 
-/// The chosen multiplier and the bound of a box of the solution of two elements.
-#[tactic(auto, using(crate::proofs::Fixtures::two_sites))]
-fn bounded_between(alloc: Global, low: &[u16], high: &[u16]) -> Result<Bounded, Fail>
+/// The chosen multiplier and the bound of a box of a solution of two elements.
+#[tactic(auto, using(crate::proofs::Boxes::two_sites))]
+fn bounded_between(
+    alloc: Global,
+    phase: &PhaseAt,
+    low: &[u16],
+    high: &[u16],
+) -> Result<Bounded, Fail>
+    requires fine { IsFine phase.now }
+    requires lattice { phase.now.lattice ≡ 10 }
+    requires sites { shape phase.now.sites ≡ 2 ∷ [] }
+    requires planes { HasPlanes phase.now }
     requires low { length low.now ≡ 2 }
     requires high { length high.now ≡ 2 }
 {
     if !are_ranges(low, high) {
         return Err("no box of the phase".into());
     }
-    let phase = ideal_solution_of_10(alloc)?;
     let range = pair_of(alloc, low, high)?;
-    choose_and_bound(alloc, &phase, &range, &POTENTIALS)
+    choose_and_bound(alloc, phase, &range, &POTENTIALS)
 }
 
 /// The box of one sublattice of two sites.
@@ -128,9 +135,58 @@ const EXPECTED: [Expected; 5] = [
 #[test]
 fn chosen_multipliers_and_bounds_of_an_ideal_solution(rt: HostRuntime) -> Result<(), Fail> {
     let alloc = rt.alloc();
+    let phase = pair(alloc)?;
     for place in 0..5 {
         let expected = &EXPECTED[place];
-        let found = bounded_between(alloc, &expected.low, &expected.high)?;
+        let found = bounded_between(alloc, &phase, &expected.low, &expected.high)?;
+        assert_eq!(rt; found, expected.bounded);
+    }
+    Ok(())
+}
+
+/// Curie temperatures on both sides of 800 K; all lists, with those below 0; one list; Curie temperatures below 800 K.
+const WITH_MAGNETISM: [Expected; 4] = [
+    Expected {
+        low: [0, 5],
+        high: [5, 10],
+        bounded: Bounded {
+            multiplier: 70_215_656_767_488,
+            bound: -749_851_228_831_744,
+        },
+    },
+    Expected {
+        low: [0, 0],
+        high: [10, 10],
+        bounded: Bounded {
+            multiplier: 40_000_000_000_000,
+            bound: -1_404_407_871_504_384,
+        },
+    },
+    Expected {
+        low: [3, 7],
+        high: [3, 7],
+        bounded: Bounded {
+            multiplier: 0,
+            bound: -61_465_671_827_456,
+        },
+    },
+    Expected {
+        low: [5, 0],
+        high: [10, 5],
+        bounded: Bounded {
+            multiplier: 70_215_656_767_488,
+            bound: -1_231_483_992_276_992,
+        },
+    },
+];
+
+#[test]
+fn bounds_of_a_solution_with_magnetism(rt: HostRuntime) -> Result<(), Fail> {
+    let alloc = rt.alloc();
+    let phase = magnetic_pair(alloc)?;
+    for place in 0..4 {
+        let expected = &WITH_MAGNETISM[place];
+        let found = bounded_between(alloc, &phase, &expected.low, &expected.high)?;
         assert_eq!(rt; found, expected.bounded);
     }
     Ok(())

@@ -4,14 +4,14 @@ ghost use Rattle.std.specs.Prelude.{◌≡◌, ◌∷◌, [], IfOk, length};
 ghost use Rattle.cef_core.specs.Phases.{IsFine};
 ghost use Rattle.cef_core.specs.Shapes.{shape};
 
-use crate::fixture::{ideal_solution_of_10, solution_of_10};
 use cef_box::{BoxRange, Range, Widest, corner_point, full, member, split, tighten};
 use cef_core::{PhaseAt, Site};
+use sample_phases::{pair, solution_of_10};
 use std::alloc::{AllocError, Global};
 use std::test::Fail;
 
 /// The corner point of the box of all lists of two constituents.
-#[tactic(auto, using(crate::proofs::Fixtures::cuts))]
+#[tactic(auto, using(crate::proofs::Boxes::cuts))]
 fn corner_of_all(alloc: Global, phase: &PhaseAt) -> Result<Site, AllocError>
     requires fine { IsFine phase.now }
     requires sites { shape phase.now.sites ≡ 2 ∷ [] }
@@ -27,7 +27,7 @@ fn the_corner_of_all_lists_of_two_constituents_is_the_first_alone(
     rt: HostRuntime,
 ) -> Result<(), Fail> {
     let alloc = rt.alloc();
-    let phase = ideal_solution_of_10(alloc)?;
+    let phase = pair(alloc)?;
     let corner = corner_of_all(alloc, &phase)?;
     assert_eq!(rt; corner.counts(), [10u16, 0].as_slice());
     Ok(())
@@ -42,7 +42,7 @@ fn box_of(alloc: Global, low: [u16; 2], high: [u16; 2]) -> Result<BoxRange, Allo
 #[test]
 fn each_range_is_cut_to_what_the_other_leaves(rt: HostRuntime) -> Result<(), Fail> {
     let alloc = rt.alloc();
-    let phase = ideal_solution_of_10(alloc)?;
+    let phase = pair(alloc)?;
     let mut range = box_of(alloc, [0, 0], [3, 10])?;
     assert!(rt; tighten(&phase, &mut range));
     assert_eq!(rt; range.lows(), [0u16, 7].as_slice());
@@ -53,7 +53,7 @@ fn each_range_is_cut_to_what_the_other_leaves(rt: HostRuntime) -> Result<(), Fai
 #[test]
 fn an_empty_box_is_left_as_it_is(rt: HostRuntime) -> Result<(), Fail> {
     let alloc = rt.alloc();
-    let phase = ideal_solution_of_10(alloc)?;
+    let phase = pair(alloc)?;
     let mut range = box_of(alloc, [0, 0], [3, 6])?;
     assert!(rt; !tighten(&phase, &mut range));
     assert_eq!(rt; range.lows(), [0u16, 0].as_slice());
@@ -69,7 +69,7 @@ struct Parts {
 }
 
 /// The parts of the box of all lists, cut at a place.
-#[tactic(auto, using(crate::proofs::Fixtures::cuts))]
+#[tactic(auto, using(crate::proofs::Boxes::cuts))]
 fn parts_of_all(alloc: Global, phase: &PhaseAt, place: usize, cut: u16) -> Result<Parts, Fail>
     requires { IsFine phase.now }
     ensures left { IfOk result (λ parts. shape parts.left ≡ shape phase.now.sites) }
@@ -95,7 +95,7 @@ fn parts_of_all(alloc: Global, phase: &PhaseAt, place: usize, cut: u16) -> Resul
 #[test]
 fn the_parts_of_a_cut_are_tight(rt: HostRuntime) -> Result<(), Fail> {
     let alloc = rt.alloc();
-    let phase = ideal_solution_of_10(alloc)?;
+    let phase = pair(alloc)?;
     let parts = parts_of_all(alloc, &phase, 0, 3)?;
     assert_eq!(rt; parts.left.lows(), [0u16, 7].as_slice());
     assert_eq!(rt; parts.left.highs(), [3u16, 10].as_slice());
@@ -120,7 +120,7 @@ fn the_first_of_two_widest_places_is_found(rt: HostRuntime) -> Result<(), Fail> 
 }
 
 /// How many lists of ten parts of three sites are members of the box.
-#[tactic(auto, using(crate::proofs::Fixtures::boxes))]
+#[tactic(auto, using(sample_phases::proofs::Boxes::boxes))]
 fn members(alloc: Global, phase: &PhaseAt, range: &BoxRange) -> Result<u32, AllocError>
     requires { shape range.now ≡ 3 ∷ [] }
 {
@@ -138,7 +138,7 @@ fn members(alloc: Global, phase: &PhaseAt, range: &BoxRange) -> Result<u32, Allo
 }
 
 /// The box of one sublattice of three sites.
-#[tactic(auto, using(crate::proofs::Fixtures::boxes))]
+#[tactic(auto, using(sample_phases::proofs::Boxes::boxes))]
 fn box_of_three(alloc: Global, low: [u16; 3], high: [u16; 3]) -> Result<BoxRange, AllocError>
     ensures { IfOk result (λ box. shape box ≡ 3 ∷ []) }
 {

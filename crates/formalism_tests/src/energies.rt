@@ -1,13 +1,12 @@
 //! Ideal mixing, and the energy of a phase.
 
-ghost use Rattle.std.specs.Prelude.{◌≡◌, None};
 ghost use Rattle.cef_core.specs.Phases.{IsFine};
 
-use crate::fixture::{plain_cementite, solution_of_10};
 use cal_log::Logs;
 use cef_core::{PhaseAt, Site, is_list};
 use cef_mix::Mix;
 use cef_phase::{PhaseModel, SumPhase};
+use sample_phases::{cementite, magnetic_pair, solution_of_10};
 use std::alloc::Global;
 use std::test::Fail;
 
@@ -27,7 +26,7 @@ const MIXING: [i128; 11] = [
 ];
 
 /// The energy of mixing of so many parts of a site of the first sublattice, in µJ/mol.
-#[tactic(auto, using(crate::proofs::Fixtures::mixes))]
+#[tactic(auto, using(crate::proofs::Phases::mixes))]
 fn mixing(alloc: Global, phase: &PhaseAt, k: u16) -> Result<i128, Fail>
     requires { IsFine phase.now }
 {
@@ -50,10 +49,9 @@ fn mixing_of_ten_parts_at_1000_kelvin(rt: HostRuntime) -> Result<(), Fail> {
 }
 
 /// The energy of a list of counts, in µJ/mol.
-#[tactic(auto, using(crate::proofs::Fixtures::shapes))]
+#[tactic(auto, using(crate::proofs::Phases::shapes))]
 fn energy(alloc: Global, phase: &PhaseAt, site: &Site) -> Result<i128, Fail>
-    requires fine { IsFine phase.now }
-    requires plain { phase.now.magnetic ≡ None }
+    requires { IsFine phase.now }
 {
     if !is_list(phase, site) {
         return Err("no list of the phase".into());
@@ -66,9 +64,28 @@ fn energy(alloc: Global, phase: &PhaseAt, site: &Site) -> Result<i128, Fail>
 #[test]
 fn the_energy_of_a_cementite_of_iron_and_chromium(rt: HostRuntime) -> Result<(), Fail> {
     let alloc = rt.alloc();
-    let phase = plain_cementite(alloc)?;
+    let phase = cementite(alloc)?;
     let metals = Site::new(alloc).with_sublattice(&[30, 70])?;
     let site = metals.with_sublattice(&[100])?;
     assert_eq!(rt; energy(alloc, &phase, &site)?, -237_270_514_030);
+    Ok(())
+}
+
+/// The energies of 0, 3, 6 and 10 of 10 parts of the first of two elements at 800 K, in µJ/mol, by another program.
+const WITH_MAGNETISM: [([u16; 2], i128); 4] = [
+    ([0, 10], -1_944_430_848),
+    ([3, 7], -7_041_407_346),
+    ([6, 4], -12_877_146_107),
+    ([10, 0], -20_000_000_000),
+];
+
+#[test]
+fn the_energies_of_a_solution_with_magnetism(rt: HostRuntime) -> Result<(), Fail> {
+    let alloc = rt.alloc();
+    let phase = magnetic_pair(alloc)?;
+    for (counts, expected) in WITH_MAGNETISM {
+        let site = Site::new(alloc).with_sublattice(&counts)?;
+        assert_eq!(rt; energy(alloc, &phase, &site)?, expected);
+    }
     Ok(())
 }

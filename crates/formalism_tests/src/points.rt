@@ -2,9 +2,9 @@
 
 ghost use Rattle.std.specs.Prelude.{◌≤◌, length};
 
-use crate::fixture::{three, two};
 use cal_list::{Items, one};
 use cef_core::{Name, PhaseAt, count_points};
+use sample_phases::{three, two};
 use std::alloc::{AllocError, Global};
 use std::test::Fail;
 

@@ -11,8 +11,7 @@ use Rattle.cef_core.specs.Phases.{IsFine, IsPhase, IsParameter, sigma}
 use Rattle.cef_core.specs.Points.{number_of}
 use Rattle.cef_core.specs.Systems.{IsPhaseOf, IsSystem, widest_of, dearest_of}
 use Rattle.cef_report.specs.Feasibility.{AreAsked}
-use Rattle.eq_solve.specs.Modelled.{IsBuilt}
-use Rattle.solving_tests.specs.Compounds.{compound, of_two, reference_of, HasModel}
+use Rattle.solving_tests.specs.Compounds.{compound, of_two}
 
 -- numbers of a compound within the limits
 pub record AreSmall (name : List ℕ) (scale a b : ℕ) (micro : ℤ) : Type 0 where
@@ -82,17 +81,14 @@ system_is first_name s a b g second_name t c d h widest is = record {
   dear = is.dear;
 }
 
-pub built_is : (first_name : List ℕ) (s a b : ℕ) (g : ℤ) (second_name : List ℕ) (t c d : ℕ) (h : ℤ) (widest : ℕ) → IsBuilt (of_two (compound first_name s a b g) (compound second_name t c d h) widest)
-built_is first_name s a b g second_name t c d h widest = (refl, (refl, tt))
+-- the phases of a system are fine
+are_fine : (system : System) (phases : List PhaseAt) → AllByRecursion (IsPhaseOf system) phases → All IsFine phases
+are_fine system [] are k d lt = absurd (omega arith)
+are_fine system (phase ∷ phases) are zero d lt = are.0.fine
+are_fine system (phase ∷ phases) are (suc k) d lt = are_fine system phases are.1 k d (omega arith)
 
--- every phase of a built system has a model
-models_from : (system : System) (phases : List PhaseAt) → AllByRecursion (IsPhaseOf system) phases → AllByRecursion (λ (phase : PhaseAt). phase.magnetic ≡ None) phases → All HasModel phases
-models_from system [] are built k d lt = absurd (omega arith)
-models_from system (phase ∷ phases) are built zero d lt = record { fine = are.0.fine; no_magnetism = built.0 }
-models_from system (phase ∷ phases) are built (suc k) d lt = models_from system phases are.1 built.1 k d (omega arith)
-
-pub have_models : (system : System) → IsSystem system → IsBuilt system → All HasModel system.phases
-have_models system is built = models_from system system.phases is.phases built
+pub phases_fine : (system : System) → IsSystem system → All IsFine system.phases
+phases_fine system is = are_fine system system.phases is.phases
 
 -- ---- the systems of the tests
 
@@ -121,14 +117,8 @@ unequal_pair = record {
 pub two_is : (system : System) (first second : PhaseAt) → first ≡ compound (65 ∷ 50 ∷ 66 ∷ []) 1 2 1 (negsuc 29999999999) → second ≡ compound (65 ∷ 66 ∷ 50 ∷ []) 1 1 2 (negsuc 29999999999) → system ≡ of_two first second 30 → IsSystem system
 two_is system first second p q r = rw (r, p, q) (system_is _ _ _ _ _ _ _ _ _ _ _ two_pair)
 
-pub two_built : (system : System) (first second : PhaseAt) → first ≡ compound (65 ∷ 50 ∷ 66 ∷ []) 1 2 1 (negsuc 29999999999) → second ≡ compound (65 ∷ 66 ∷ 50 ∷ []) 1 1 2 (negsuc 29999999999) → system ≡ of_two first second 30 → IsBuilt system
-two_built system first second p q r = rw (r, p, q) (built_is (65 ∷ 50 ∷ 66 ∷ []) 1 2 1 (negsuc 29999999999) (65 ∷ 66 ∷ 50 ∷ []) 1 1 2 (negsuc 29999999999) 30)
-
 pub unequal_is : (system : System) (first second : PhaseAt) → first ≡ compound (76 ∷ 79 ∷ []) 100 75 25 (negsuc 999999999999) → second ≡ compound (72 ∷ 73 ∷ []) 1 1 3 (negsuc 39999999999) → system ≡ of_two first second 1000 → IsSystem system
 unequal_is system first second p q r = rw (r, p, q) (system_is _ _ _ _ _ _ _ _ _ _ _ unequal_pair)
-
-pub unequal_built : (system : System) (first second : PhaseAt) → first ≡ compound (76 ∷ 79 ∷ []) 100 75 25 (negsuc 999999999999) → second ≡ compound (72 ∷ 73 ∷ []) 1 1 3 (negsuc 39999999999) → system ≡ of_two first second 1000 → IsBuilt system
-unequal_built system first second p q r = rw (r, p, q) (built_is (76 ∷ 79 ∷ []) 100 75 25 (negsuc 999999999999) (72 ∷ 73 ∷ []) 1 1 3 (negsuc 39999999999) 1000)
 
 -- two amounts within the limits, the first above 0
 pub asked_is : (system : System) (x y : ℤ) → length system.elements ≡ 2 → pos 1 ≤ℤ x → x ≤ℤ pos (2 ^ 50) → pos 0 ≤ℤ y → y ≤ℤ pos (2 ^ 50) → AreAsked system (x ∷ y ∷ [])

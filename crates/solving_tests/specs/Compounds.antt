@@ -1,19 +1,13 @@
 -- Systems of two compounds of A and B, at 1000 K on a lattice of 10.
-use Rattle.std.specs.Prelude.{◌≡◌, ℕ, List, [], ◌∷◌, Some, None, false, ℤ}
+use Rattle.std.specs.Prelude.{ℕ, List, [], ◌∷◌, Some, None, false, ℤ}
 use Rattle.cef_kind.specs.declared.kind.Kind.TheVariants.{G}
 use Rattle.cef_core.specs.declared.phase.ParamAt.{ParamAt}
 use Rattle.cef_core.specs.declared.phase.PhaseAt.{PhaseAt}
-use Rattle.cef_core.specs.Phases.{IsFine}
 use Rattle.cef_core.specs.declared.system.System.{System}
 
 -- the reference energy of their one constitution
 abbrev pub reference_of : ℤ → List ParamAt
 reference_of micro = record { kind = G; micro = micro; array = (0 ∷ []) ∷ (0 ∷ []) ∷ []; order = 0; weighted = false } ∷ []
-
--- a phase that has a model
-pub record HasModel (phase : PhaseAt) : Type 0 where
-  pub fine : IsFine phase
-  pub no_magnetism : phase.magnetic ≡ None
 
 -- one constituent on each of two sublattices of these ratios, and its energy in µJ/mol
 abbrev pub compound : List ℕ → ℕ → ℕ → ℕ → ℤ → PhaseAt

@@ -1,8 +1,8 @@
 ghost use Rattle.std.specs.Prelude.{◌≡◌, ◌≤◌, ◌∷◌, [], Some, All, IfOk, length, map, pos, ◌≤ℤ◌};
+ghost use Rattle.cef_core.specs.Phases.{IsFine};
 ghost use Rattle.cef_core.specs.Systems.{IsSystem};
 ghost use Rattle.cal_limits.specs.declared.TheConstants.{MOST_ASKED};
-ghost use Rattle.eq_solve.specs.Modelled.{IsBuilt};
-ghost use Rattle.solving_tests.specs.Compounds.{compound, of_two, reference_of, HasModel};
+ghost use Rattle.solving_tests.specs.Compounds.{compound, of_two, reference_of};
 
 use cal_list::{Items, one};
 use cal_log::Logs;
@@ -101,7 +101,6 @@ pub(crate) fn of_two(
 /// `A2B` and `AB2`, both of -30000 J/mol.
 pub(crate) fn two_compounds(alloc: Global) -> Result<System, AllocError>
     ensures system { IfOk result (λ system. IsSystem system) }
-    ensures built { IfOk result (λ system. IsBuilt system) }
     ensures elements { IfOk result (λ system. length system.elements ≡ 2) }
 {
     let first = compound(alloc, b"A2B", 1, 2, 1, -30_000_000_000)?;
@@ -113,7 +112,6 @@ pub(crate) fn two_compounds(alloc: Global) -> Result<System, AllocError>
 /// `LO` of the ratios .75 and .25 and of -10000 J/mol, and `HI` of 1 and 3 and of -40000 J/mol.
 pub(crate) fn unequal_ratios(alloc: Global) -> Result<System, AllocError>
     ensures system { IfOk result (λ system. IsSystem system) }
-    ensures built { IfOk result (λ system. IsBuilt system) }
     ensures elements { IfOk result (λ system. length system.elements ≡ 2) }
 {
     let first = compound(alloc, b"LO", 100, 75, 25, -1_000_000_000_000)?;
@@ -126,9 +124,9 @@ pub(crate) fn unequal_ratios(alloc: Global) -> Result<System, AllocError>
 fn models_of<'a>(
     alloc: Global,
     phases: &'a [PhaseAt],
-    logs: &Logs,
+    logs: &'a Logs,
 ) -> Result<Vec<SumPhase<'a>>, AllocError>
-    requires phases { All HasModel phases.now }
+    requires phases { All IsFine phases.now }
     requires logs { 501001 ≤ logs.now }
     ensures { IfOk result (λ models. map (λ model. model.phase.now) models.items ≡ phases.now) }
 {
@@ -150,7 +148,6 @@ pub(crate) fn report_of(
 ) -> Result<Report, SolveFault>
     requires logs { 501001 ≤ logs.now }
     requires system { IsSystem system.now }
-    requires built { IsBuilt system.now }
     requires elements { length system.now.elements ≡ 2 }
     requires a_low { pos 1 ≤ℤ a }
     requires a_high { a ≤ℤ pos MOST_ASKED }

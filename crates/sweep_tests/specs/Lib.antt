@@ -1,1 +1,2 @@
-pub mod Fixtures
+-- Phases that can be swept.
+pub mod Sweepable

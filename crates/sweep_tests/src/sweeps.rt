@@ -1,14 +1,65 @@
 //! Sweeps of small phases.
 
-use crate::fixture::{pair, single, sweep_one, sweep_two, vacant};
-use cef_core::{Node, Site};
-use eq_sweep::Swept;
+ghost use Rattle.std.specs.Prelude.{◌≡◌, ◌≤◌, ◌^◌, IfOk, map, unsigned_abs};
+ghost use Rattle.sweep_tests.specs.Sweepable.{AreSweepable};
+
+use cal_log::Logs;
+use cef_core::{Node, PhaseAt, Site};
+use cef_phase::SumPhase;
+use eq_sweep::{Swept, sweep};
+use sample_phases::{pair, single, vacant};
+use std::alloc::{AllocError, Global};
 use std::test::Fail;
 
 /// Potentials that a phase of two elements lies above, and those that it does not, in 2^-16 µJ for each tenth of a mol.
 const LOW: i128 = -40_000_000_000_000;
 
 const HIGH: i128 = -20_000_000_000_000;
+
+/// The model of each phase, in order.
+fn models_of<'a>(
+    alloc: Global,
+    phases: &'a [PhaseAt],
+    logs: &'a Logs,
+) -> Result<Vec<SumPhase<'a>>, AllocError>
+    requires phases { AreSweepable phases.now }
+    requires logs { 501001 ≤ logs.now }
+    ensures { IfOk result (λ models. map (λ model. model.phase.now) models.items ≡ phases.now) }
+{
+    let mut models = Vec::new(alloc);
+    'phases: for i in 0..phases.len() {
+        models.push(SumPhase::build(alloc, &phases[i], logs)?)?;
+    }
+    Ok(models)
+}
+
+/// The sweep of the phases under the same potential of two elements.
+fn swept(alloc: Global, phases: &[PhaseAt], potential: i128, budget: u64) -> Result<Swept, Fail>
+    requires phases { AreSweepable phases.now }
+    requires potential { unsigned_abs potential ≤ 2 ^ 60 }
+{
+    let logs = Logs::build(alloc, 600_000)?;
+    let models = models_of(alloc, phases, &logs)?;
+    let swept = sweep(alloc, models.as_slice(), &[potential, potential], budget)?;
+    Ok(swept)
+}
+
+/// The sweep of ideal mixing of two elements.
+fn swept_pair(alloc: Global, potential: i128, budget: u64) -> Result<Swept, Fail>
+    requires { unsigned_abs potential ≤ 2 ^ 60 }
+{
+    let phase = pair(alloc)?;
+    swept(alloc, &[phase], potential, budget)
+}
+
+/// The sweep of one element alone and of ideal mixing of two.
+fn swept_single_and_pair(alloc: Global, potential: i128, budget: u64) -> Result<Swept, Fail>
+    requires { unsigned_abs potential ≤ 2 ^ 60 }
+{
+    let first = single(alloc)?;
+    let second = pair(alloc)?;
+    swept(alloc, &[first, second], potential, budget)
+}
 
 fn is_half_and_half(site: &Site) -> bool {
     site.counts() == [5, 5].as_slice()
@@ -67,30 +118,26 @@ fn is_only_empty(swept: &Swept) -> bool {
 #[test]
 fn a_phase_above_the_plane_is_closed_by_one_leaf(rt: HostRuntime) -> Result<(), Fail> {
     let alloc = rt.alloc();
-    let phase = pair(alloc)?;
-    let swept = sweep_one(alloc, &phase, LOW, 0)?;
-    assert_eq!(rt; only_multiplier(&swept), Some(40_000_000_000_000));
+    let found = swept_pair(alloc, LOW, 0)?;
+    assert_eq!(rt; only_multiplier(&found), Some(40_000_000_000_000));
     Ok(())
 }
 
 #[test]
 fn a_phase_below_the_plane_is_found_after_one_split(rt: HostRuntime) -> Result<(), Fail> {
     let alloc = rt.alloc();
-    let phase = pair(alloc)?;
-    assert!(rt; is_out_at(&sweep_one(alloc, &phase, HIGH, 0)?, 0));
-    assert!(rt; is_below_at(&sweep_one(alloc, &phase, HIGH, 1)?, 0));
-    assert!(rt; is_below_at(&sweep_one(alloc, &phase, HIGH, 10)?, 0));
-    assert!(rt; is_below_at(&sweep_one(alloc, &phase, HIGH, 11)?, 0));
+    assert!(rt; is_out_at(&swept_pair(alloc, HIGH, 0)?, 0));
+    assert!(rt; is_below_at(&swept_pair(alloc, HIGH, 1)?, 0));
+    assert!(rt; is_below_at(&swept_pair(alloc, HIGH, 10)?, 0));
+    assert!(rt; is_below_at(&swept_pair(alloc, HIGH, 11)?, 0));
     Ok(())
 }
 
 #[test]
 fn the_second_phase_is_below(rt: HostRuntime) -> Result<(), Fail> {
     let alloc = rt.alloc();
-    let first = single(alloc)?;
-    let second = pair(alloc)?;
-    assert!(rt; is_out_at(&sweep_two(alloc, &first, &second, HIGH, 0)?, 1));
-    assert!(rt; is_below_at(&sweep_two(alloc, &first, &second, HIGH, 1)?, 1));
+    assert!(rt; is_out_at(&swept_single_and_pair(alloc, HIGH, 0)?, 1));
+    assert!(rt; is_below_at(&swept_single_and_pair(alloc, HIGH, 1)?, 1));
     Ok(())
 }
 
@@ -98,6 +145,7 @@ fn the_second_phase_is_below(rt: HostRuntime) -> Result<(), Fail> {
 fn one_list_without_content_is_empty(rt: HostRuntime) -> Result<(), Fail> {
     let alloc = rt.alloc();
     let phase = vacant(alloc)?;
-    assert!(rt; is_only_empty(&sweep_one(alloc, &phase, HIGH, 0)?));
+    let found = swept(alloc, &[phase], HIGH, 0)?;
+    assert!(rt; is_only_empty(&found));
     Ok(())
 }

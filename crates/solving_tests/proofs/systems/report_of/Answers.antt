@@ -1,11 +1,11 @@
 use Rattle.std.proofs.Common.{rules, SFits}
 use Rattle.std.specs.Int.{w128}
 use Rattle.std.proofs.lemmas.Int.{to_z-of_z}
-use Rattle.solving_tests.proofs.Fine.{have_models, asked_is}
+use Rattle.solving_tests.proofs.Fine.{phases_fine, asked_is}
 use Rattle.solving_tests.proofs.systems.report_of.Goals as goal
 
 pub models_of-requires-clause-phases : goal.models_of-requires-clause-phases
-models_of-requires-clause-phases c = rw c.as_slice.ensures (have_models c.args.system.now c.requires.system c.requires.built)
+models_of-requires-clause-phases c = rw c.as_slice.ensures (phases_fine c.args.system.now c.requires.system)
 
 pub equilibrium-requires-clause-asked : goal.equilibrium-requires-clause-asked
 equilibrium-requires-clause-asked c =

@@ -1,8 +1,5 @@
-use Rattle.solving_tests.proofs.Fine.{two_is, two_built}
+use Rattle.solving_tests.proofs.Fine.{two_is}
 use Rattle.solving_tests.proofs.systems.two_compounds.Goals as goal
 
 pub returns-clause-system : goal.returns-clause-system
 returns-clause-system c = two_is _ _ _ c.in_ok-first.ensures c.in_ok-second.ensures c.in_ok-system.ensures
-
-pub returns-clause-built : goal.returns-clause-built
-returns-clause-built c = two_built _ _ _ c.in_ok-first.ensures c.in_ok-second.ensures c.in_ok-system.ensures

@@ -1,8 +1,5 @@
-use Rattle.solving_tests.proofs.Fine.{unequal_is, unequal_built}
+use Rattle.solving_tests.proofs.Fine.{unequal_is}
 use Rattle.solving_tests.proofs.systems.unequal_ratios.Goals as goal
 
 pub returns-clause-system : goal.returns-clause-system
 returns-clause-system c = unequal_is _ _ _ c.in_ok-first.ensures c.in_ok-second.ensures c.in_ok-system.ensures
-
-pub returns-clause-built : goal.returns-clause-built
-returns-clause-built c = unequal_built _ _ _ c.in_ok-first.ensures c.in_ok-second.ensures c.in_ok-system.ensures

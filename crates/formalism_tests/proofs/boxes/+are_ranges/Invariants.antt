@@ -1,5 +1,0 @@
-use Rattle.std.proofs.Common.{length}
-use Rattle.formalism_tests.proofs.boxes.+are_ranges.Given as goal
-
-abbrev pub decreases-are_ranges : goal.decreases-are_ranges
-decreases-are_ranges l = length l.low.now

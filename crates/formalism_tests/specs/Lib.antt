@@ -1,2 +1,0 @@
--- The phases of the tests.
-pub mod Fixtures

@@ -1,0 +1,8 @@
+use Rattle.sample_phases.proofs.Fine.{vacant_fine, vacant_planes}
+use Rattle.sample_phases.proofs.solutions.vacant.Goals as goal
+
+pub returns-clause-fine : goal.returns-clause-fine
+returns-clause-fine c = vacant_fine c.in_ok-row.row c.in_ok-phase.phase c.in_ok-row.ensures c.in_ok-phase.ensures
+
+pub returns-clause-planes : goal.returns-clause-planes
+returns-clause-planes c = vacant_planes c.in_ok-row.row c.in_ok-phase.phase c.in_ok-row.ensures c.in_ok-phase.ensures

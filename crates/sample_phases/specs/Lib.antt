@@ -1,0 +1,2 @@
+-- The phases that tests are made of.
+pub mod Samples
