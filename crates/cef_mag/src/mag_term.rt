@@ -2,7 +2,8 @@ ghost use Rattle.std.specs.Prelude.{◌≡◌, ◌≤◌, ◌+◌, ◌*◌, IsSo
 ghost use Rattle.cal_limits.specs.declared.TheConstants.{MOST_CURIE, MOST_MOMENT};
 ghost use Rattle.cef_core.specs.Phases.{IsFine};
 ghost use Rattle.cef_box.specs.Terms.{shape_of_phase};
-ghost use Rattle.cef_mag.specs.Sums.{AreSummands, HasMagnetism, value_of_terms, low_of_terms, high_of_terms, terms_between, terms_same};
+ghost use Rattle.cef_mag.specs.Sums.{AreSummands, value_of_terms, low_of_terms, high_of_terms};
+ghost use Rattle.cef_mag.specs.Summing.{HasMagnetism, terms_between, terms_same};
 
 use crate::magnet::Magnet;
 use crate::sums::{sum_of_values, sums_over};

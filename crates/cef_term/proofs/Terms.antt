@@ -9,34 +9,32 @@ use Rattle.cef_box.specs.Boxes.{lows_of, highs_of}
 use Rattle.cef_box.specs.Terms.{FitsSite, FitsBox, shape_of_phase}
 use Rattle.cef_term.specs.declared.param_term.ParamTerm.{ParamTerm}
 use Rattle.cef_term.specs.Bounds.{value_of, parameter_low, parameter_high}
-use Rattle.cef_term.specs.Kept.{product_at, factor_at, least_factor_at, greatest_factor_at, least_q_at, greatest_q_at, counts_for, sites_of, den, micro_of, AreCounts, HasFactor, HasProduct}
+use Rattle.cef_term.specs.Kept.{product_at, factor_at, least_factor_at, greatest_factor_at, counts_for, sites_of, den, micro_of, HasFactor, HasProduct}
+use Rattle.cef_term.specs.Counted.{AreCountsOf, least_value, greatest_value}
 use Rattle.cef_term.proofs.Choosing.{counts_chosen, least_by_counts, greatest_by_counts}
 use Rattle.cef_term.proofs.Keeping.{has_factor, has_product, site_counts, low_counts, high_counts, value_room, least_room, greatest_room}
 use Rattle.cef_term.proofs.Roomy.{low_of-below, low_of-above, high_of-below, high_of-above}
 
-abbrev pub AreOf : ParamTerm → List ℕ → Type 0
-AreOf t counts = AreCounts t.phase.now.lattice (sites_of t.phase.now) counts
-
 -- at the least product of counts and factor
-pub factor_room : (t : ParamTerm) (low high : List ℕ) → AreOf t low → AreOf t high → HasFactor t.form low high
+pub factor_room : (t : ParamTerm) (low high : List ℕ) → AreCountsOf t low → AreCountsOf t high → HasFactor t.form low high
 factor_room t low high l h = has_factor t.phase.now t.parameter.now t.places.items t.form t.share low high t.valid l h
 
-pub least_product_room : (t : ParamTerm) (low high counts places : List ℕ) (factor : ℤ) → places ≡ t.places.items → counts ≡ counts_for factor low high → AreOf t low → AreOf t high → HasProduct (den t.share) counts places
+pub least_product_room : (t : ParamTerm) (low high counts places : List ℕ) (factor : ℤ) → places ≡ t.places.items → counts ≡ counts_for factor low high → AreCountsOf t low → AreCountsOf t high → HasProduct (den t.share) counts places
 least_product_room t low high counts places factor p c l h = rw (p, c) (has_product t.phase.now t.parameter.now t.places.items t.form t.share (counts_for factor low high) t.valid (counts_chosen t.phase.now.lattice (sites_of t.phase.now) factor low high l h))
 
-pub least_share_room : (t : ParamTerm) (low high counts places : List ℕ) (factor : ℤ) → places ≡ t.places.items → counts ≡ counts_for factor low high → factor ≡ least_factor_at t.form low high → AreOf t low → AreOf t high → product_at counts places * unsigned_abs factor ≤ den t.share
+pub least_share_room : (t : ParamTerm) (low high counts places : List ℕ) (factor : ℤ) → places ≡ t.places.items → counts ≡ counts_for factor low high → factor ≡ least_factor_at t.form low high → AreCountsOf t low → AreCountsOf t high → product_at counts places * unsigned_abs factor ≤ den t.share
 least_share_room t low high counts places factor p c f l h = rw (p, c, f) (least_room t.phase.now t.parameter.now t.places.items t.form t.share low high t.valid l h)
 
-pub least_value : (t : ParamTerm) (low high counts places : List ℕ) (factor : ℤ) → places ≡ t.places.items → counts ≡ counts_for factor low high → factor ≡ least_factor_at t.form low high →
-    value_of (micro_of t.share) (den t.share) (pos (product_at counts places) *ℤ factor) ≡ value_of t.parameter.now.micro (den t.share) (least_q_at t.places.items t.form low high)
-least_value t low high counts places factor p c f = rw (p, c, f, t.valid.micro_is) (ap (λ q. value_of t.parameter.now.micro (den t.share) q) (least_by_counts (least_factor_at t.form low high) low high t.places.items))
+pub least_value_is : (t : ParamTerm) (low high counts places : List ℕ) (factor : ℤ) → places ≡ t.places.items → counts ≡ counts_for factor low high → factor ≡ least_factor_at t.form low high →
+    value_of (micro_of t.share) (den t.share) (pos (product_at counts places) *ℤ factor) ≡ least_value t low high
+least_value_is t low high counts places factor p c f = rw (p, c, f, t.valid.micro_is) (ap (λ q. value_of t.parameter.now.micro (den t.share) q) (least_by_counts (least_factor_at t.form low high) low high t.places.items))
 
-pub greatest_share_room : (t : ParamTerm) (low high counts places : List ℕ) (factor : ℤ) → places ≡ t.places.items → counts ≡ counts_for factor high low → factor ≡ greatest_factor_at t.form low high → AreOf t low → AreOf t high → product_at counts places * unsigned_abs factor ≤ den t.share
+pub greatest_share_room : (t : ParamTerm) (low high counts places : List ℕ) (factor : ℤ) → places ≡ t.places.items → counts ≡ counts_for factor high low → factor ≡ greatest_factor_at t.form low high → AreCountsOf t low → AreCountsOf t high → product_at counts places * unsigned_abs factor ≤ den t.share
 greatest_share_room t low high counts places factor p c f l h = rw (p, c, f) (greatest_room t.phase.now t.parameter.now t.places.items t.form t.share low high t.valid l h)
 
-pub greatest_value : (t : ParamTerm) (low high counts places : List ℕ) (factor : ℤ) → places ≡ t.places.items → counts ≡ counts_for factor high low → factor ≡ greatest_factor_at t.form low high →
-    value_of (micro_of t.share) (den t.share) (pos (product_at counts places) *ℤ factor) ≡ value_of t.parameter.now.micro (den t.share) (greatest_q_at t.places.items t.form low high)
-greatest_value t low high counts places factor p c f = rw (p, c, f, t.valid.micro_is) (ap (λ q. value_of t.parameter.now.micro (den t.share) q) (greatest_by_counts (greatest_factor_at t.form low high) low high t.places.items))
+pub greatest_value_is : (t : ParamTerm) (low high counts places : List ℕ) (factor : ℤ) → places ≡ t.places.items → counts ≡ counts_for factor high low → factor ≡ greatest_factor_at t.form low high →
+    value_of (micro_of t.share) (den t.share) (pos (product_at counts places) *ℤ factor) ≡ greatest_value t low high
+greatest_value_is t low high counts places factor p c f = rw (p, c, f, t.valid.micro_is) (ap (λ q. value_of t.parameter.now.micro (den t.share) q) (greatest_by_counts (greatest_factor_at t.form low high) low high t.places.items))
 
 -- at the counts of a site
 pub site_factor : (t : ParamTerm) (site : List (List ℕ)) (counts : List ℕ) → counts ≡ concat site → FitsSite (shape_of_phase t.phase.now) site → HasFactor t.form counts counts
@@ -53,31 +51,31 @@ pub site_value : (t : ParamTerm) (site : List (List ℕ)) (counts places : List 
 site_value t site counts places factor c p f fits = rw (f, c, p, t.valid.micro_is) (sym (t.valid.value_is site fits))
 
 -- over a box
-pub box_low : (t : ParamTerm) (box : List (List Range)) (low : List ℕ) → low ≡ concat (lows_of box) → FitsBox (shape_of_phase t.phase.now) box → AreOf t low
+pub box_low : (t : ParamTerm) (box : List (List Range)) (low : List ℕ) → low ≡ concat (lows_of box) → FitsBox (shape_of_phase t.phase.now) box → AreCountsOf t low
 box_low t box low e fits = rw e (low_counts t.phase.now box fits)
 
-pub box_high : (t : ParamTerm) (box : List (List Range)) (high : List ℕ) → high ≡ concat (highs_of box) → FitsBox (shape_of_phase t.phase.now) box → AreOf t high
+pub box_high : (t : ParamTerm) (box : List (List Range)) (high : List ℕ) → high ≡ concat (highs_of box) → FitsBox (shape_of_phase t.phase.now) box → AreCountsOf t high
 box_high t box high e fits = rw e (high_counts t.phase.now box fits)
 
 pub low_at_greatest : (t : ParamTerm) (box : List (List Range)) (low high : List ℕ) → low ≡ concat (lows_of box) → high ≡ concat (highs_of box) → FitsBox (shape_of_phase t.phase.now) box → t.parameter.now.micro <ℤ pos 0 →
-    value_of t.parameter.now.micro (den t.share) (greatest_q_at t.places.items t.form low high) ≡ parameter_low t.phase.now.lattice t.parameter.now box
+    greatest_value t low high ≡ parameter_low t.phase.now.lattice t.parameter.now box
 low_at_greatest t box low high l h fits below = rw (l, h) (low_of-below t.parameter.now.micro (den t.share) _ _ below ∙ sym (t.valid.low_is box fits))
 
 pub low_at_least : (t : ParamTerm) (box : List (List Range)) (low high : List ℕ) → low ≡ concat (lows_of box) → high ≡ concat (highs_of box) → FitsBox (shape_of_phase t.phase.now) box → pos 0 ≤ℤ t.parameter.now.micro →
-    value_of t.parameter.now.micro (den t.share) (least_q_at t.places.items t.form low high) ≡ parameter_low t.phase.now.lattice t.parameter.now box
+    least_value t low high ≡ parameter_low t.phase.now.lattice t.parameter.now box
 low_at_least t box low high l h fits above = rw (l, h) (low_of-above t.parameter.now.micro (den t.share) _ _ above ∙ sym (t.valid.low_is box fits))
 
 pub high_at_least : (t : ParamTerm) (box : List (List Range)) (low high : List ℕ) → low ≡ concat (lows_of box) → high ≡ concat (highs_of box) → FitsBox (shape_of_phase t.phase.now) box → t.parameter.now.micro <ℤ pos 0 →
-    value_of t.parameter.now.micro (den t.share) (least_q_at t.places.items t.form low high) ≡ parameter_high t.phase.now.lattice t.parameter.now box
+    least_value t low high ≡ parameter_high t.phase.now.lattice t.parameter.now box
 high_at_least t box low high l h fits below = rw (l, h) (high_of-below t.parameter.now.micro (den t.share) _ _ below ∙ sym (t.valid.high_is box fits))
 
 pub high_at_greatest : (t : ParamTerm) (box : List (List Range)) (low high : List ℕ) → low ≡ concat (lows_of box) → high ≡ concat (highs_of box) → FitsBox (shape_of_phase t.phase.now) box → pos 0 ≤ℤ t.parameter.now.micro →
-    value_of t.parameter.now.micro (den t.share) (greatest_q_at t.places.items t.form low high) ≡ parameter_high t.phase.now.lattice t.parameter.now box
+    greatest_value t low high ≡ parameter_high t.phase.now.lattice t.parameter.now box
 high_at_greatest t box low high l h fits above = rw (l, h) (high_of-above t.parameter.now.micro (den t.share) _ _ above ∙ sym (t.valid.high_is box fits))
 
-pub ruleset least_rules = (factor_room, least_product_room, least_share_room, least_value, to_z-of_z)
+pub ruleset least_rules = (factor_room, least_product_room, least_share_room, least_value_is, to_z-of_z)
 
-pub ruleset greatest_rules = (factor_room, least_product_room, greatest_share_room, greatest_value, to_z-of_z)
+pub ruleset greatest_rules = (factor_room, least_product_room, greatest_share_room, greatest_value_is, to_z-of_z)
 
 pub ruleset value_rules = (site_factor, site_product, site_room, site_value, to_z-of_z)
 

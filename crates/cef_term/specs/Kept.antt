@@ -1,5 +1,6 @@
 -- What a term keeps of its parameter: places that count on over the sublattices, the form of its factor, its divisor.
 use Rattle.std.specs.Prelude.{◌≡◌, ℕ, zero, suc, ◌+◌, ◌-◌, ◌*◌, ◌^◌, ◌<◌, ◌≤◌, List, [], ◌∷◌, length, map, slice_index, Bool, true, ℤ, pos, negsuc, ◌+ℤ◌, ◌-ℤ◌, ◌*ℤ◌, unsigned_abs}
+use Rattle.std.specs.Int.{int_div_euclid}
 use Rattle.std.specs.List.{concat}
 use Rattle.cef_core.specs.declared.phase.ParamAt.{ParamAt}
 use Rattle.cef_core.specs.declared.phase.PhaseAt.{PhaseAt}
@@ -69,7 +70,11 @@ IsFormIn n sites Plain = Unit {0}
 IsFormIn n sites (Binary i j v) = (i < sites) × (j < sites)
 IsFormIn n sites (Ternary m o i j) = (o < sites) × (i < sites) × (j < sites) × (m ≡ n)
 
--- the product of the counts times the factor
+-- the product of the counts times a factor
+abbrev pub q_at : List ℕ → List ℕ → ℤ → ℤ
+q_at counts places factor = pos (product_at counts places) *ℤ factor
+
+-- and times the factor of the form
 abbrev pub value_q_at : List ℕ → Form → List ℕ → ℤ
 value_q_at places form counts = pos (product_at counts places) *ℤ factor_at form counts
 
@@ -92,6 +97,10 @@ sites_of phase = places phase.sites
 -- what micro leaves behind the whole number times the divisor
 abbrev pub rest_of : NarrowShare → ℕ
 rest_of share = unsigned_abs (share.micro -ℤ share.whole *ℤ pos share.den)
+
+-- floor (micro * q / den)
+abbrev pub quotient_of : ℤ → ℤ → ℕ → ℤ
+quotient_of micro q den = int_div_euclid (micro *ℤ q) (pos den)
 
 -- A divisor up to 2^31: micro / den is whole + rest/den, and part is rest/den in 2^-64, rounded up.
 pub record IsNarrow (share : NarrowShare) : Type 0 where
@@ -117,6 +126,10 @@ micro_of (Wide share) = share.micro
 abbrev pub den : Share → ℕ
 den (Narrow share) = share.den
 den (Wide share) = share.den
+
+-- floor (micro * q / den) of a share
+abbrev pub share_value : Share → ℤ → ℤ
+share_value share q = value_of (micro_of share) (den share) q
 
 pub record IsShare (share : Share) : Type 0 where
   pub den_low : 1 ≤ den share

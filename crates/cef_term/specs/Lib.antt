@@ -2,3 +2,5 @@
 pub mod Bounds
 -- Workings: what a term keeps.
 pub mod Kept
+-- Workings: a term at lists of counts.
+pub mod Counted

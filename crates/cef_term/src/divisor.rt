@@ -5,7 +5,8 @@ ghost use Rattle.cef_term.specs.Kept.{factor_most};
 
 use crate::form::Form;
 
-/// The divisor of a parameter's value: a power of N for its counts, times the greatest magnitude of its factor.
+/// The divisor of a parameter's value: a power of N for its counts, times the greatest magnitude
+/// of its factor.
 pub fn divisor_of(n: u32, count: usize, form: Form) -> u128
     requires some { 1 ≤ n }
     requires room { n ^ count * factor_most n form ≤ 3 * 2 ^ 70 }

@@ -1,7 +1,8 @@
 //! The factor behind the product of the counts, its least and its greatest over a box.
 
 ghost use Rattle.std.specs.Prelude.{◌≡◌, ◌*◌, ◌-◌, ◌+◌, pos, ◌-ℤ◌};
-ghost use Rattle.cef_term.specs.Kept.{HasFactor, factor_at, least_factor_at, greatest_factor_at, counts_for};
+ghost use Rattle.cef_term.specs.Kept.{HasFactor, counts_for};
+ghost use Rattle.cef_term.specs.Kept.{factor_at, least_factor_at, greatest_factor_at};
 
 use crate::form::Form;
 use crate::power::{difference, greatest_power_of, least_power_of, power_of};

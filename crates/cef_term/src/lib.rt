@@ -1,6 +1,7 @@
 //! Parameters as terms of an energy: their values, and their lows and highs over boxes.
 #![tactic(auto)]
 
+mod box_ends;
 mod divisor;
 mod factor;
 mod form;

@@ -1,8 +1,8 @@
 //! Shares of divisors up to 2^31, in 64 bits.
 
-ghost use Rattle.std.specs.Prelude.{◌≡◌, ◌≤◌, ◌<◌, ◌^◌, ◌+◌, ◌*◌, ◌/◌, pos, ◌*ℤ◌, ◌+ℤ◌, ◌-ℤ◌, unsigned_abs};
-ghost use Rattle.std.specs.Int.{int_div_euclid};
-ghost use Rattle.cef_term.specs.Kept.{HasProduct, IsNarrow, product_at};
+ghost use Rattle.std.specs.Prelude.{◌≡◌, ◌≤◌, ◌<◌, ◌^◌, ◌+◌, ◌*◌, ◌/◌};
+ghost use Rattle.std.specs.Prelude.{pos, ◌*ℤ◌, ◌+ℤ◌, ◌-ℤ◌, unsigned_abs};
+ghost use Rattle.cef_term.specs.Kept.{HasProduct, IsNarrow, product_at, quotient_of};
 
 use cal_whole::{floor_quotient, floor_rest};
 
@@ -104,15 +104,16 @@ fn joined(first: i64, over: u64, micro: i64) -> i64
     first + over as i64 - micro
 }
 
-/// floor (micro * q / den) for the product q of a product of counts and a factor, of a magnitude of at most den. With
-/// up = q + den, which is at least 0, it is whole*up + floor (part*up / 2^64) - micro.
+/// floor (micro * q / den) for the product q of a product of counts and a factor, of a magnitude
+/// of at most den. With up = q + den, which is at least 0, it is
+/// whole*up + floor (part*up / 2^64) - micro.
 #[inline(always)]
 #[tactic(auto, using(crate::proofs::Parts::value_rules))]
 pub fn narrow_value(share: NarrowShare, product: u64, factor: i64) -> i64
     requires keeps { IsNarrow share }
     requires small { product ≤ 2 ^ 31 }
     requires room { product * unsigned_abs factor ≤ share.den }
-    ensures { result ≡ int_div_euclid (share.micro *ℤ (pos product *ℤ factor)) (pos share.den) }
+    ensures { result ≡ quotient_of share.micro (pos product *ℤ factor) share.den }
 {
     let up = raised(product, factor, share.den);
     let first = times(share.whole, up);

@@ -1,12 +1,13 @@
-ghost use Rattle.std.specs.Prelude.{◌≡◌, ◌<◌, ◌≤◌, List, ℕ, ℤ, IfOk, Some, length, slice_get, unsigned_abs};
+ghost use Rattle.std.specs.Prelude.{◌≡◌, ◌<◌, ◌≤◌, List, ℕ, ℤ, IfOk, Some};
+ghost use Rattle.std.specs.Prelude.{length, slice_get, unsigned_abs};
 ghost use Rattle.cef_core.specs.Parameters.{parameter_value};
 ghost use Rattle.cef_core.specs.Phases.{IsFine};
 ghost use Rattle.cef_box.specs.Terms.{shape_of_phase};
-ghost use Rattle.cef_term.specs.Bounds.{parameter_low, parameter_high, value_of};
-ghost use Rattle.cef_term.specs.Kept.{IsKept, AreCounts, den, sites_of, least_q_at, greatest_q_at};
+ghost use Rattle.cef_term.specs.Bounds.{parameter_low, parameter_high};
+ghost use Rattle.cef_term.specs.Kept.{IsKept};
 
 use crate::divisor::divisor_of;
-use crate::factor::{counts_for, factor_of, greatest_factor_of, least_factor_of};
+use crate::factor::factor_of;
 use crate::form::Form;
 use crate::placing::{form_of, place_array};
 use crate::share::{Share, share_of, share_value};
@@ -21,9 +22,9 @@ pub struct ParamTerm<'a> {
     phase: &'a PhaseAt,
     parameter: &'a ParamAt,
     /// The places of the constituents of its array, which count on over the sublattices.
-    places: SmallVec<u16, 8>,
-    form: Form,
-    share: Share,
+    pub(crate) places: SmallVec<u16, 8>,
+    pub(crate) form: Form,
+    pub(crate) share: Share,
     ghost valid: { IsKept phase.now parameter.now places.items form share },
 }
 
@@ -53,34 +54,6 @@ impl<'a> ParamTerm<'a> {
             form,
             share,
         })
-    }
-
-    /// The value for the least product of the counts and the factor over a box.
-    #[inline(always)]
-    #[tactic(auto, using(crate::proofs::Terms::least_rules))]
-    fn at_least(&self, low: &[u16], high: &[u16]) -> i128
-        requires low { AreCounts self.now.phase.now.lattice (sites_of self.now.phase.now) low.now }
-        requires high { AreCounts self.now.phase.now.lattice (sites_of self.now.phase.now) high.now }
-        ensures exact { result ≡ value_of self.now.parameter.now.micro (den self.now.share) (least_q_at self.now.places.items self.now.form low.now high.now) }
-        ensures size { unsigned_abs result ≤ unsigned_abs self.now.parameter.now.micro }
-    {
-        let factor = least_factor_of(self.form, low, high);
-        let counts = counts_for(factor, low, high);
-        share_value(self.share, counts, self.places.as_slice(), factor)
-    }
-
-    /// The value for the greatest product of the counts and the factor over a box.
-    #[inline(always)]
-    #[tactic(auto, using(crate::proofs::Terms::greatest_rules))]
-    fn at_greatest(&self, low: &[u16], high: &[u16]) -> i128
-        requires low { AreCounts self.now.phase.now.lattice (sites_of self.now.phase.now) low.now }
-        requires high { AreCounts self.now.phase.now.lattice (sites_of self.now.phase.now) high.now }
-        ensures exact { result ≡ value_of self.now.parameter.now.micro (den self.now.share) (greatest_q_at self.now.places.items self.now.form low.now high.now) }
-        ensures size { unsigned_abs result ≤ unsigned_abs self.now.parameter.now.micro }
-    {
-        let factor = greatest_factor_of(self.form, low, high);
-        let counts = counts_for(factor, high, low);
-        share_value(self.share, counts, self.places.as_slice(), factor)
     }
 }
 

@@ -1,8 +1,7 @@
 //! Shares of a parameter: floor (micro * q / den).
 
 ghost use Rattle.std.specs.Prelude.{◌≡◌, ◌≤◌, ◌^◌, ◌*◌, pos, ◌*ℤ◌, unsigned_abs};
-ghost use Rattle.cef_term.specs.Bounds.{value_of};
-ghost use Rattle.cef_term.specs.Kept.{HasProduct, IsShare, micro_of, den, product_at};
+ghost use Rattle.cef_term.specs.Kept.{HasProduct, IsShare, share_value, micro_of, den, product_at, q_at};
 
 use crate::narrow::{NarrowShare, narrow_share, narrow_value, product_of};
 use crate::wide::{WideShare, wide_value};
@@ -37,14 +36,15 @@ pub fn share_of(micro: i128, divisor: u128) -> Share
     }
 }
 
-/// floor (micro * q / den) for the product q of the counts at the places and a factor, of a magnitude of at most den.
+/// floor (micro * q / den) for the product q of the counts at the places and a factor, of a
+/// magnitude of at most den.
 #[inline(always)]
 #[tactic(auto, using(crate::proofs::Shares::signed_rules))]
 pub fn share_value(share: Share, counts: &[u16], places: &[u16], factor: i64) -> i128
     requires keeps { IsShare share }
     requires product { HasProduct (den share) counts.now places.now }
     requires room { product_at counts.now places.now * unsigned_abs factor ≤ den share }
-    ensures exact { result ≡ value_of (micro_of share) (den share) (pos (product_at counts.now places.now) *ℤ factor) }
+    ensures exact { result ≡ share_value share (q_at counts.now places.now factor) }
     ensures size { unsigned_abs result ≤ unsigned_abs (micro_of share) }
 {
     match share {

@@ -1,8 +1,8 @@
-//! Shares of divisors above 2^31, in 128 bits: products of counts and of their factors may need more than 64.
+//! Shares of divisors above 2^31, in 128 bits: products of counts and of their factors may need
+//! more than 64.
 
 ghost use Rattle.std.specs.Prelude.{◌≡◌, ◌≤◌, ◌^◌, ◌*◌, ◌-◌, pos, ◌*ℤ◌, unsigned_abs};
-ghost use Rattle.std.specs.Int.{int_div_euclid};
-ghost use Rattle.cef_term.specs.Kept.{HasProduct, IsWide, product_at};
+ghost use Rattle.cef_term.specs.Kept.{HasProduct, IsWide, product_at, q_at, quotient_of};
 
 use cal_whole::floor_quotient;
 
@@ -45,7 +45,8 @@ fn times(count: u128, factor: i64) -> i128
     product(count as i128, i128::from(factor))
 }
 
-/// floor (micro * q / den) for the product q of the counts at the places and a factor, of a magnitude of at most den.
+/// floor (micro * q / den) for the product q of the counts at the places and a factor, of a
+/// magnitude of at most den.
 #[cold]
 #[inline(never)]
 #[tactic(auto, using(crate::proofs::Shares::wide_value_rules))]
@@ -53,7 +54,7 @@ pub fn wide_value(share: WideShare, counts: &[u16], places: &[u16], factor: i64)
     requires keeps { IsWide share }
     requires product { HasProduct share.den counts.now places.now }
     requires room { product_at counts.now places.now * unsigned_abs factor ≤ share.den }
-    ensures { result ≡ int_div_euclid (share.micro *ℤ (pos (product_at counts.now places.now) *ℤ factor)) (pos share.den) }
+    ensures { result ≡ quotient_of share.micro (q_at counts.now places.now factor) share.den }
 {
     let q = times(product_of(counts, places), factor);
     floor_quotient(product(share.micro, q), share.den as i128)
