@@ -7,7 +7,7 @@ use Rattle.std.proofs.lemmas.Int.{ints, to_z-of_z}
 use Rattle.std.proofs.lemmas.Bool.{cases_lt}
 use Rattle.std.proofs.lemmas.Grind.{common_steps}
 use Rattle.cal_limits.specs.declared.TheConstants.{MOST_ENERGY}
-use Rattle.cef_mix.specs.Tables.{entry}
+use Rattle.cef_mix.specs.Tables.{entry, AreEnergies}
 use Rattle.cal_math.specs.Logarithm.{log_of}
 use Rattle.cal_log.specs.Laws.{log_of-le, log_of-1000}
 use Rattle.cef_core.specs.Mixing.{mixing_at}
@@ -61,12 +61,18 @@ entries-more t n a k list x e are here = λ j lt.
       | inr top ↦ let same : j ≡ k = omega arith in rw same (grind (arith, common_steps, here))
     ]
 
-pub small-none : (j : ℕ) → unsigned_abs (entry (pos 0 ∷ []) j) ≤ MOST_ENERGY
-small-none zero = omega arith
-small-none (suc j) = omega arith
+pub small-none : (n : ℕ) (j : ℕ) → unsigned_abs (entry (pos 0 ∷ []) j) ≤ n
+small-none n zero = omega arith
+small-none n (suc j) = omega arith
 
-pub small-more : (list : List ℤ) (x : ℤ) → ((j : ℕ) → unsigned_abs (entry list j) ≤ MOST_ENERGY) → unsigned_abs x ≤ MOST_ENERGY → (j : ℕ) → unsigned_abs (entry (list ++ x ∷ []) j) ≤ MOST_ENERGY
-small-more [] x are here zero = here
-small-more [] x are here (suc j) = omega arith
-small-more (y ∷ list) x are here zero = are zero
-small-more (y ∷ list) x are here (suc j) = small-more list x (λ i. are (suc i)) here j
+pub small-more : (n : ℕ) (list : List ℤ) (x : ℤ) → ((j : ℕ) → unsigned_abs (entry list j) ≤ n) → unsigned_abs x ≤ n → (j : ℕ) → unsigned_abs (entry (list ++ x ∷ []) j) ≤ n
+small-more n [] x are here zero = here
+small-more n [] x are here (suc j) = omega arith
+small-more n (y ∷ list) x are here zero = are zero
+small-more n (y ∷ list) x are here (suc j) = small-more n list x (λ i. are (suc i)) here j
+
+-- energies that have room
+pub energies_small : (t n a : ℕ) (energies : List ℤ) → AreEnergies t n a energies → (k : ℕ) → unsigned_abs (entry energies k) ≤ MOST_ENERGY
+energies_small t n a energies are k = omega (arith, are.small k, are.room)
+
+pub ruleset sized = (energies_small)

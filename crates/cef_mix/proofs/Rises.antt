@@ -3,36 +3,36 @@ use Rattle.std.proofs.Common.{◌≡◌, ℕ, ◌+◌, ◌-◌, ◌*◌, ◌^◌
 use Rattle.std.specs.Prelude.{ℤ, pos, neg_ℤ, ◌-ℤ◌, ◌*ℤ◌, ◌≤ℤ◌, ◌<ℤ◌, unsigned_abs}
 use Rattle.std.specs.Int.{int_div_euclid}
 use Rattle.std.proofs.lemmas.Int.{ints, to_z-of_z}
+use Rattle.std.proofs.lemmas.Nat.{mul-le}
 use Rattle.std.proofs.lemmas.Bool.{cases_lt}
 use Rattle.std.proofs.lemmas.Grind.{common_steps}
 use Rattle.cal_limits.specs.declared.TheConstants.{MOST_ENERGY}
 use Rattle.cal_math.specs.Whole.{floor-le, lt-floor}
 use Rattle.cef_core.specs.Mixing.{mixing_at}
-use Rattle.cef_mix.specs.Tables.{entry, AreEnergies, AreRises, AreOrdered}
-use Rattle.cef_mix.proofs.Halves.{IsConvex, Falls, Climbs}
+use Rattle.cef_mix.specs.Tables.{entry, AreEnergies, IsGreatestFall, IsNarrow}
 
 -- ---- the greatest rise that a slope outweighs, cut to what rises can be
 
-pub below_floor : (slope most rise : ℤ) → most ≡ int_div_euclid slope (pos 65536) → rise ≤ℤ most → (pos 65536 *ℤ rise) ≤ℤ slope
+below_floor : (slope most rise : ℤ) → most ≡ int_div_euclid slope (pos 65536) → rise ≤ℤ most → (pos 65536 *ℤ rise) ≤ℤ slope
 below_floor slope most rise e le = omega (arith, ints, e, le, floor-le slope (pos 65536) (omega (arith, ints)))
 
-pub above_floor : (slope most rise : ℤ) → most ≡ int_div_euclid slope (pos 65536) → most <ℤ rise → slope ≤ℤ (pos 65536 *ℤ rise)
+above_floor : (slope most rise : ℤ) → most ≡ int_div_euclid slope (pos 65536) → most <ℤ rise → slope ≤ℤ (pos 65536 *ℤ rise)
 above_floor slope most rise e lt = omega (arith, ints, e, lt, lt-floor slope (pos 65536) (omega (arith, ints)))
 
-pub falls_at : (energies rises : List ℤ) (slope most : ℤ) (k : ℕ) → AreRises energies rises → k < length rises →
-    ((rise : ℤ) → unsigned_abs rise ≤ 2 * MOST_ENERGY → rise ≤ℤ most → (pos 65536 *ℤ rise) ≤ℤ slope) → entry rises k ≤ℤ most → Falls (entry energies) slope k
-falls_at energies rises slope most k are lt low le =
-    subst (λ (z : ℤ). (pos 65536 *ℤ z) ≤ℤ slope) (are.entries k lt) (low (entry rises k) (are.small k) le)
+pub fall_is : (slope most : ℤ) → most ≡ int_div_euclid slope (pos 65536) → IsGreatestFall slope most
+fall_is slope most e = record { falls = λ rise h le. below_floor slope most rise e le; climbs = λ rise h lt. above_floor slope most rise e lt }
 
-pub climbs_at : (energies rises : List ℤ) (slope most : ℤ) (k : ℕ) → AreRises energies rises → k < length rises →
-    ((rise : ℤ) → unsigned_abs rise ≤ 2 * MOST_ENERGY → most <ℤ rise → slope ≤ℤ (pos 65536 *ℤ rise)) → most <ℤ entry rises k → Climbs (entry energies) slope k
-climbs_at energies rises slope most k are lt high more =
-    subst (λ (z : ℤ). slope ≤ℤ (pos 65536 *ℤ z)) (are.entries k lt) (high (entry rises k) (are.small k) more)
+pub fall_low : (slope floor most : ℤ) → floor ≡ int_div_euclid slope (pos 65536) → floor <ℤ most → most ≡ neg_ℤ (pos (2 ^ 57)) → IsGreatestFall slope most
+fall_low slope floor most e lt low = record {
+  falls = λ rise h le. absurd (omega (arith, ints, low, h, le));
+  climbs = λ rise h more. above_floor slope floor rise e (omega (arith, ints, lt, more));
+}
 
-pub convex_of : (energies rises : List ℤ) → AreRises energies rises → AreOrdered rises → IsConvex (length energies - 1) (entry energies)
-convex_of energies rises are ordered k le =
-    let two : k + 1 + 1 ≡ k + 2 = omega arith in
-    omega (arith, ints, ordered k (omega (arith, are.each)), are.entries k (omega (arith, are.each)), are.entries (k + 1) (omega (arith, are.each)), ap (entry energies) two)
+pub fall_high : (slope floor most : ℤ) → floor ≡ int_div_euclid slope (pos 65536) → most <ℤ floor → most ≡ pos (2 ^ 57) → IsGreatestFall slope most
+fall_high slope floor most e lt high = record {
+  falls = λ rise h le. below_floor slope floor rise e (omega (arith, ints, lt, le));
+  climbs = λ rise h more. absurd (omega (arith, ints, high, h, more));
+}
 
 -- ---- one difference after another
 
@@ -43,16 +43,19 @@ rises-more energies rises k x e are here = λ j lt.
       | inr top ↦ let same : j ≡ k = omega arith in rw same (grind (arith, common_steps, here))
     ]
 
-pub small-more : (rises : List ℤ) (x : ℤ) → ((j : ℕ) → unsigned_abs (entry rises j) ≤ 2 * MOST_ENERGY) → unsigned_abs x ≤ 2 * MOST_ENERGY → (j : ℕ) → unsigned_abs (entry (rises ++ x ∷ []) j) ≤ 2 * MOST_ENERGY
-small-more [] x are here zero = here
-small-more [] x are here (suc j) = omega arith
-small-more (y ∷ rises) x are here zero = are zero
-small-more (y ∷ rises) x are here (suc j) = small-more rises x (λ i. are (suc i)) here j
+pub rises_small-more : (rises : List ℤ) (x : ℤ) → ((j : ℕ) → unsigned_abs (entry rises j) ≤ 2 * MOST_ENERGY) → unsigned_abs x ≤ 2 * MOST_ENERGY → (j : ℕ) → unsigned_abs (entry (rises ++ x ∷ []) j) ≤ 2 * MOST_ENERGY
+rises_small-more [] x are here zero = here
+rises_small-more [] x are here (suc j) = omega arith
+rises_small-more (y ∷ rises) x are here zero = are zero
+rises_small-more (y ∷ rises) x are here (suc j) = rises_small-more rises x (λ i. are (suc i)) here j
 
-pub ruleset falls = (below_floor, above_floor, ints, to_z-of_z)
+pub ruleset falls = (fall_is, fall_low, fall_high, to_z-of_z)
 
 -- from one count to another
 pub rise_between : (t n a : ℕ) (energies : List ℤ) (low high : ℕ) (x : ℤ) → AreEnergies t n a energies → low ≤ n → high ≤ n → x ≡ entry energies high -ℤ entry energies low → x ≡ mixing_at t n a high -ℤ mixing_at t n a low
 rise_between t n a energies low high x are l h e = rw (e, are.entries low l, are.entries high h) refl
+
+pub narrow_below : (t n a s x : ℕ) → IsNarrow t n a s → x ≤ s → IsNarrow t n a x
+narrow_below t n a s x most le = record { alone = omega (arith, most.alone, le); share = omega (arith, most.share, mul-le x n s n le (omega arith)); energies = most.energies }
 
 pub ruleset between = (rise_between, to_z-of_z)

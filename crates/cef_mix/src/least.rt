@@ -1,9 +1,9 @@
 //! The least height of an energy above a slope, over a range of counts.
 
-ghost use Rattle.std.specs.Prelude.{◌≡◌, ℕ, ◌+◌, ◌-◌, ◌*◌, ◌^◌, ◌<◌, ◌≤◌, length, ℤ, pos, ◌-ℤ◌, ◌*ℤ◌, ◌≤ℤ◌, ◌<ℤ◌, unsigned_abs};
+ghost use Rattle.std.specs.Prelude.{◌≡◌, ℕ, ◌+◌, ◌-◌, ◌*◌, ◌^◌, ◌<◌, ◌≤◌, length, pos, ◌-ℤ◌, ◌*ℤ◌, unsigned_abs};
 ghost use Rattle.cal_limits.specs.declared.TheConstants.{MOST_ENERGY};
 ghost use Rattle.cef_mix.specs.Mixes.{height, IsLeastOn};
-ghost use Rattle.cef_mix.specs.Tables.{entry, AreRises, AreOrdered};
+ghost use Rattle.cef_mix.specs.Tables.{entry, AreRises, AreOrdered, IsGreatestFall, IsTurn};
 
 /// The least height over a range, and a count that has it.
 #[derive(Clone, Copy)]
@@ -20,6 +20,17 @@ fn height_of(energy: i64, slope: i128, count: usize) -> i128
     ensures { result ≡ pos 65536 *ℤ energy -ℤ slope *ℤ pos count }
 {
     65536 * i128::from(energy) - slope * count as i128
+}
+
+/// The same where it has 64 bits.
+#[tactic(auto, using(crate::proofs::Heights::heights))]
+fn narrow_height(energy: i64, slope: i64, count: usize) -> i64
+    requires energy { unsigned_abs energy ≤ 2 ^ 45 }
+    requires slope { unsigned_abs slope * count ≤ 2 ^ 61 }
+    requires count { count < 2 ^ 16 }
+    ensures { result ≡ pos 65536 *ℤ energy -ℤ slope *ℤ pos count }
+{
+    65536 * energy - slope * count as i64
 }
 
 /// The least height, by going over all counts.
@@ -53,8 +64,7 @@ const STEEPEST: i128 = 1 << 57;
 /// The greatest rise of an energy that does not lift its height: 2^16 times it is no more than the slope.
 #[tactic(auto, using(crate::proofs::Rises::falls))]
 fn greatest_fall(slope: i128) -> i64
-    ensures yes { (rise : ℤ) → unsigned_abs rise ≤ 2 * MOST_ENERGY → rise ≤ℤ result → (pos 65536 *ℤ rise) ≤ℤ slope }
-    ensures no { (rise : ℤ) → unsigned_abs rise ≤ 2 * MOST_ENERGY → result <ℤ rise → slope ≤ℤ (pos 65536 *ℤ rise) }
+    ensures { IsGreatestFall slope result }
 {
     let most = slope.div_euclid(65536);
     if most < -STEEPEST {
@@ -66,18 +76,22 @@ fn greatest_fall(slope: i128) -> i64
     }
 }
 
-/// The least height of energies whose rises are in order, by halving the range: left of the least place the heights fall,
-/// right of it they do not.
-pub fn least_by_halves(energies: &[i64], rises: &[i64], low: u16, high: u16, slope: i128) -> Least
-    requires order { low ≤ high }
-    requires within { high < length energies.now }
-    requires small { (k : ℕ) → unsigned_abs (entry energies.now k) ≤ MOST_ENERGY }
-    requires slope { unsigned_abs slope * (length energies.now - 1) ≤ 2 ^ 119 }
-    requires rises { AreRises energies.now rises.now }
-    requires ordered { AreOrdered rises.now }
-    ensures { IsLeastOn (entry energies.now) slope low high result.place result.height }
+/// The same for a slope of 64 bits.
+#[tactic(auto, using(crate::proofs::Rises::falls))]
+fn narrow_fall(slope: i64) -> i64
+    ensures { IsGreatestFall slope result }
 {
-    let most = greatest_fall(slope);
+    slope >> 16
+}
+
+/// The first count of a range whose rise is above a limit, or the last count: left of it the rises are within the limit.
+#[tactic(auto, using(crate::proofs::Halves::turns))]
+fn turn(rises: &[i64], low: u16, high: u16, most: i64) -> usize
+    requires order { low ≤ high }
+    requires within { high ≤ length rises.now }
+    requires ordered { AreOrdered rises.now }
+    ensures { IsTurn rises.now most low high result }
+{
     let mut first = usize::from(low);
     let mut left = usize::from(high) - first;
     'halves: while left > 0 {
@@ -87,8 +101,41 @@ pub fn least_by_halves(energies: &[i64], rises: &[i64], low: u16, high: u16, slo
         }
         left -= half;
     }
+    first
+}
+
+/// The least height of energies whose rises are in order: left of its place the heights fall, right of it they do not.
+#[tactic(auto, using(crate::proofs::Halves::least))]
+pub fn least_by_halves(energies: &[i64], rises: &[i64], low: u16, high: u16, slope: i128) -> Least
+    requires order { low ≤ high }
+    requires within { high < length energies.now }
+    requires small { (k : ℕ) → unsigned_abs (entry energies.now k) ≤ MOST_ENERGY }
+    requires slope { unsigned_abs slope * (length energies.now - 1) ≤ 2 ^ 119 }
+    requires rises { AreRises energies.now rises.now }
+    requires ordered { AreOrdered rises.now }
+    ensures { IsLeastOn (entry energies.now) slope low high result.place result.height }
+{
+    let place = turn(rises, low, high, greatest_fall(slope));
     Least {
-        place: first as u16,
-        height: height_of(energies[first], slope, first),
+        place: place as u16,
+        height: height_of(energies[place], slope, place),
+    }
+}
+
+/// The same where heights have 64 bits.
+#[tactic(auto, using(crate::proofs::Halves::least))]
+pub fn least_narrow(energies: &[i64], rises: &[i64], low: u16, high: u16, slope: i64) -> Least
+    requires order { low ≤ high }
+    requires within { high < length energies.now }
+    requires small { (k : ℕ) → unsigned_abs (entry energies.now k) ≤ 2 ^ 45 }
+    requires slope { unsigned_abs slope * (length energies.now - 1) ≤ 2 ^ 61 }
+    requires rises { AreRises energies.now rises.now }
+    requires ordered { AreOrdered rises.now }
+    ensures { IsLeastOn (entry energies.now) slope low high result.place result.height }
+{
+    let place = turn(rises, low, high, narrow_fall(slope));
+    Least {
+        place: place as u16,
+        height: i128::from(narrow_height(energies[place], slope, place)),
     }
 }

@@ -1,17 +1,20 @@
 //! The energies of mixing of one sublattice, for 0 to N parts.
 
-ghost use Rattle.std.specs.Prelude.{◌≡◌, ℕ, ◌+◌, ◌*◌, ◌-◌, ◌/◌, ◌^◌, ◌≤◌, IfOk, length, ◌-ℤ◌, unsigned_abs};
+ghost use Rattle.std.specs.Prelude.{◌≡◌, ℕ, ◌+◌, ◌*◌, ◌-◌, ◌/◌, ◌^◌, ◌≤◌, IfOk, Some, length, ◌-ℤ◌, unsigned_abs};
 ghost use Rattle.std.specs.Bool.{OnTrue};
 ghost use Rattle.cal_limits.specs.declared.TheConstants.{HIGHEST_TEMPERATURE, MOST_RATIOS, MOST_ENERGY, GAS_CONSTANT};
 ghost use Rattle.cef_core.specs.Mixing.{mixing_at};
 ghost use Rattle.cef_mix.specs.Mixes.{IsLeastOn};
-ghost use Rattle.cef_mix.specs.Tables.{entry, AreEnergies, AreRises, AreOrdered};
+ghost use Rattle.cef_mix.specs.Tables.{entry, AreEnergies, AreRises, AreOrdered, IsNarrow};
 
-use crate::least::{Least, least_by_halves, least_of_all};
+use crate::least::{Least, least_by_halves, least_narrow, least_of_all};
 use cal_limits::GAS_CONSTANT;
 use cal_log::Logs;
 use std::alloc::{AllocError, Global};
 use std::marker::Model;
+
+/// The greatest energy of which 2^16 times has 61 bits.
+const MOST_NARROW: u64 = 1 << 45;
 
 /// The energies of mixing of a sublattice with this ratio. Contracts see what they depend on.
 #[derive(Drop)]
@@ -25,6 +28,8 @@ pub struct Table {
     rises: Vec<i64>,
     /// Whether no difference is below the one before.
     is_convex: bool,
+    /// The steepest slope for which heights have 64 bits, if they have at all.
+    steepest: Option<u64>,
 }
 
 impl Model for Table {
@@ -36,7 +41,7 @@ impl Model for Table {
 
     ghost view = { λ b. record { t = b.t; lattice = b.lattice; ratio = b.ratio } };
 
-    ghost invariant = { λ b. IsTable b.t b.lattice b.ratio b.energies.items b.rises.items b.is_convex };
+    ghost invariant = { λ b. IsTable b.t b.lattice b.ratio b.energies.items b.rises.items b.is_convex b.steepest };
 }
 
 impl Table {
@@ -66,6 +71,7 @@ impl Table {
             energies,
             rises,
             is_convex,
+            steepest: steepest(t, lattice, ratio),
         })
     }
 
@@ -96,6 +102,16 @@ impl Table {
         rise(energies[usize::from(low)], energies[usize::from(high)])
     }
 
+    /// Whether heights over a slope have 64 bits.
+    fn is_narrow(&self, slope: i128) -> bool
+        ensures { OnTrue result (IsNarrow self.now.t self.now.lattice self.now.ratio (unsigned_abs slope)) }
+    {
+        match self.steepest {
+            None => false,
+            Some(steepest) => slope.unsigned_abs() <= u128::from(steepest),
+        }
+    }
+
     /// The least of 2^16 times the energy less the slope's share, from the low to the high count.
     #[tactic(auto, using(crate::proofs::Halves::as_mixing))]
     pub fn least_on(&self, low: u16, high: u16, slope: i128) -> Least
@@ -105,11 +121,27 @@ impl Table {
         ensures { IsLeastOn (mixing_at self.now.t self.now.lattice self.now.ratio) slope low high result.place result.height }
     {
         let energies = self.energies.as_slice();
-        if self.is_convex {
-            least_by_halves(energies, self.rises.as_slice(), low, high, slope)
-        } else {
-            least_of_all(energies, low, high, slope)
+        let rises = self.rises.as_slice();
+        if !self.is_convex {
+            return least_of_all(energies, low, high, slope);
         }
+        if self.is_narrow(slope) {
+            return least_narrow(energies, rises, low, high, slope as i64);
+        }
+        least_by_halves(energies, rises, low, high, slope)
+    }
+}
+
+/// The steepest slope of which N counts and the energies have room together.
+fn steepest(t: u32, lattice: u32, ratio: u32) -> Option<u64>
+    requires lattice { 1 ≤ lattice }
+    requires room { 600000 * t * ratio ≤ MOST_ENERGY }
+    ensures { (s : ℕ) → result ≡ Some s → IsNarrow t lattice ratio s }
+{
+    if 600_000 * u64::from(t) * u64::from(ratio) <= MOST_NARROW {
+        Some((1 << 61) / u64::from(lattice))
+    } else {
+        None
     }
 }
 
@@ -148,7 +180,7 @@ fn mixing(t: u32, n: u32, ratio: u32, k: u32, logs: &Logs) -> i64
     requires some { 1 ≤ k }
     requires within { k ≤ n }
     ensures exact { result ≡ mixing_at t n ratio k }
-    ensures small { unsigned_abs result ≤ MOST_ENERGY }
+    ensures small { unsigned_abs result ≤ 600000 * t * ratio }
 {
     let log = logs.at(n).unsigned_abs() - logs.at(k).unsigned_abs();
     let number = spent(t, n, ratio, k, log);

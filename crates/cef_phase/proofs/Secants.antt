@@ -1,6 +1,6 @@
 -- Secants of heights, and room for them; the best of them.
 use Rattle.std.proofs.Common.{◌≡◌, ℕ, ◌+◌, ◌-◌, ◌*◌, ◌<◌, ◌≤◌, ◌^◌, List, [], ◌∷◌, drop, length, arith, refl, inl, inr, subst, sym, ap, ◌∙◌}
-use Rattle.std.specs.Prelude.{ℤ, pos, ◌-ℤ◌, ◌*ℤ◌, ◌≤ℤ◌, ◌<ℤ◌, unsigned_abs, FitsSigned}
+use Rattle.std.specs.Prelude.{ℤ, pos, ◌-ℤ◌, ◌*ℤ◌, ◌≤ℤ◌, ◌<ℤ◌, unsigned_abs, slice_index, FitsSigned}
 use Rattle.std.specs.Int.{int_div_euclid, w128}
 use Rattle.std.proofs.lemmas.Bool.{lt-ltb, le-ltb, cases_lt}
 use Rattle.std.proofs.lemmas.Int.{ints, to_z-of_z}
@@ -104,9 +104,6 @@ first_on f h m slopes r row x y z ey ez =
           rw (secants_past h m slopes r row le) (ez ∙ ap (λ (w : ℤ). first_greatest f w (secants h slopes row)) here)
     ]
 
-pub first_is : (f : ℤ → ℤ) (ys : List ℤ) (x z : ℤ) → x ≡ pos 0 → z ≡ first_greatest f x ys → IsFirstGreatest f (pos 0 ∷ ys) z
-first_is f ys x z ex ez = rw (ez, ex) (first_greatest_is f (pos 0) ys)
-
 -- with the site at a place, and then those behind it
 pub secants_step : (f : ℤ → ℤ) (h : ℕ → ℤ) (slopes : List ℤ) (low high : List ℕ) (site : ℕ) (x y z : ℤ) → site < length slopes → site < length (ranges low high) →
     y ≡ first_greatest f x (secants h (at slopes site ∷ []) (range_at low high site ∷ [])) → first_greatest f x (secants h (drop site slopes) (drop site (ranges low high))) ≡ z →
@@ -114,12 +111,36 @@ pub secants_step : (f : ℤ → ℤ) (h : ℕ → ℤ) (slopes : List ℤ) (low 
 secants_step f h slopes low high site x y z ls lr ey ez =
     first_on f h (at slopes site) (drop (site + 1) slopes) (range_at low high site) (drop (site + 1) (ranges low high)) x y _ ey refl ∙ rw (numbers_drop slopes site ls, ranges_drop low high site lr) at ez
 
-pub secants_end : (f : ℤ → ℤ) (h : ℕ → ℤ) (slopes : List ℤ) (row : List Range) (site : ℕ) (x : ℤ) → length slopes ≤ site →
-    first_greatest f x (secants h (drop site slopes) (drop site row)) ≡ first_greatest f (pos 0) (secants h slopes row) → IsFirstGreatest f (pos 0 ∷ secants h slopes row) x
-secants_end f h slopes row site x le e =
+pub secants_end : (f : ℤ → ℤ) (h : ℕ → ℤ) (slopes : List ℤ) (row : List Range) (site : ℕ) (x first : ℤ) (rest all : List ℤ) → length slopes ≤ site → all ≡ first ∷ rest →
+    first_greatest f x (secants h (drop site slopes) (drop site row)) ≡ first_greatest f first rest → IsFirstGreatest f all x
+secants_end f h slopes row site x first rest all le is e =
     let none : first_greatest f x (secants h (drop site slopes) (drop site row)) ≡ x = rw (drop_all site slopes le) refl in
-    first_is f (secants h slopes row) (pos 0) x refl (sym none ∙ e)
+    let same : first_greatest f first rest ≡ x = sym e ∙ none in
+    rw is (subst (λ (z : ℤ). IsFirstGreatest f (first ∷ rest) z) same (first_greatest_is f first rest))
+
+-- of no secants 0 is chosen
+pub zero_alone : (f : ℤ → ℤ) (ys : List ℤ) → ys ≡ [] → IsFirstGreatest f (pos 0 ∷ ys) (pos 0)
+zero_alone f ys e = rw e (first_greatest_is f (pos 0) [])
+
+-- ---- the first secant of a row
+
+-- a site that has none
+pub secants_closed : (h : ℕ → ℤ) (slopes : List ℤ) (low high : List ℕ) (site : ℕ) (all : List ℤ) → site < length slopes → site < length (ranges low high) → slice_index high site ≤ slice_index low site →
+    secants h (drop site slopes) (drop site (ranges low high)) ≡ all → secants h (drop (site + 1) slopes) (drop (site + 1) (ranges low high)) ≡ all
+secants_closed h slopes low high site all ls lr le e =
+    sym (secants_past h (at slopes site) (drop (site + 1) slopes) (range_at low high site) (drop (site + 1) (ranges low high)) le) ∙ rw (numbers_drop slopes site ls, ranges_drop low high site lr) at e
+
+-- one that has one
+pub secants_open : (h : ℕ → ℤ) (slopes : List ℤ) (low high : List ℕ) (site : ℕ) (all : List ℤ) → site < length slopes → site < length (ranges low high) → slice_index low site < slice_index high site →
+    secants h (drop site slopes) (drop site (ranges low high)) ≡ all → all ≡ secant h (at slopes site) (range_at low high site) ∷ secants h (drop (site + 1) slopes) (drop (site + 1) (ranges low high))
+secants_open h slopes low high site all ls lr lt e =
+    sym (rw (numbers_drop slopes site ls, ranges_drop low high site lr) at e) ∙ secants_on h (at slopes site) (drop (site + 1) slopes) (range_at low high site) (drop (site + 1) (ranges low high)) lt
+
+pub secants_none : (h : ℕ → ℤ) (slopes : List ℤ) (row : List Range) (site : ℕ) (all : List ℤ) → length slopes ≤ site → secants h (drop site slopes) (drop site row) ≡ all → all ≡ []
+secants_none h slopes row site all le e = sym e ∙ rw (drop_all site slopes le) refl
+
+pub ruleset opening = (to_z-of_z)
 
 pub ruleset stepping = (with_secant, without_secant, to_z-of_z)
 
-pub ruleset chosen = (first_is, to_z-of_z)
+pub ruleset chosen = (zero_alone, to_z-of_z)

@@ -1,11 +1,13 @@
 //! The multiplier that is chosen for a sublattice.
 
-ghost use Rattle.std.specs.Prelude.{◌≡◌, ◌≤◌, ◌<◌, ◌*◌, ◌^◌, ◌∷◌, [], length, slice_index, ℤ, pos, ◌-ℤ◌, ◌*ℤ◌, ◌<ℤ◌, unsigned_abs};
+ghost use Rattle.std.specs.Prelude.{◌≡◌, ℕ, ◌≤◌, ◌<◌, ◌^◌, ◌∷◌, [], Some, None, length, ℤ, pos, ◌*ℤ◌, ◌≤ℤ◌, ◌<ℤ◌, unsigned_abs};
+ghost use Rattle.std.specs.Bool.{OnTrue};
 ghost use Rattle.std.specs.Int.{int_div_euclid};
-ghost use Rattle.cal_math.specs.Vectors.{at};
-ghost use Rattle.cef_phase.specs.Choosing.{secant, secants, IsFirstGreatest};
-ghost use Rattle.cef_phase.specs.Firsts.{first_greatest, IsBest};
-ghost use Rattle.cef_phase.specs.Walks.{CanRow, AreSlopes, mixing_of, slopes_at, ranges_at, part_at, candidates_at};
+ghost use Rattle.cef_phase.specs.Choosing.{IsFirstGreatest};
+ghost use Rattle.cef_phase.specs.Firsts.{first_greatest};
+ghost use Rattle.cef_phase.specs.Walks.{CanRow, AreSlopes, FitsRow, IsFirstOpen, slopes_at, range_of, part_at};
+ghost use Rattle.cef_phase.specs.Walks.{secant_of, secants_of, all_secants, candidates_at};
+ghost use Rattle.cef_phase.specs.Walks.{IsBestOf, IsInside, IsOutside, IsHigher, IsLower};
 
 use crate::part::row_part;
 use crate::row::Row;
@@ -54,9 +56,9 @@ fn secant(row: &Row<'_>, site: usize) -> i128
     requires row { CanRow (2 ^ 117) row.now }
     requires slopes { AreSlopes row.now.mix.now.lattice (2 ^ 116) (slopes_at row.now) }
     requires site { site < length row.now.sites.now }
-    requires order { slice_index row.now.low.now site < slice_index row.now.high.now site }
-    ensures exact { result ≡ secant (mixing_of row.now) (at (slopes_at row.now) site) (record { low = slice_index row.now.low.now site; high = slice_index row.now.high.now site }) }
-    ensures size { unsigned_abs result * row.now.mix.now.lattice ≤ 2 ^ 117 }
+    requires order { (range_of row.now site).low < (range_of row.now site).high }
+    ensures exact { result ≡ secant_of row.now site }
+    ensures size { FitsRow row.now result }
 {
     let low = row.low[site];
     let high = row.high[site];
@@ -85,7 +87,9 @@ const FARTHEST: i128 = 1 << 118;
 /// What is left of a range of multipliers where a part at one of them rises by n less the counts for each further one.
 #[tactic(auto, using(crate::proofs::Betters::narrowing))]
 fn narrowed(between: Between, multiplier: i128, n: u32, counts: u32) -> Between
-    ensures { (other : ℤ) → between.low <ℤ other → other <ℤ between.high → pos 0 <ℤ ((other -ℤ multiplier) *ℤ (pos n -ℤ pos counts)) → (result.low <ℤ other) × (other <ℤ result.high) }
+    ensures inside { (l : ℤ) → between.low <ℤ l → l <ℤ between.high → IsHigher multiplier n counts l → IsInside result l }
+    ensures left { result.low <ℤ result.high → (l : ℤ) → between.low ≤ℤ l → l <ℤ result.low → IsLower multiplier n counts l }
+    ensures right { result.low <ℤ result.high → (l : ℤ) → l ≤ℤ between.high → result.high <ℤ l → IsLower multiplier n counts l }
 {
     if counts < n {
         Between {
@@ -98,26 +102,30 @@ fn narrowed(between: Between, multiplier: i128, n: u32, counts: u32) -> Between
             high: multiplier,
         }
     } else {
-        between
+        Between {
+            low: multiplier,
+            high: multiplier,
+        }
     }
 }
 
-/// The multiplier 0, which is the first candidate.
+/// A multiplier alone.
 #[tactic(auto, using(crate::proofs::Betters::first))]
-fn first(row: &Row<'_>) -> Best
+fn first(row: &Row<'_>, multiplier: i128) -> Best
     requires row { CanRow (2 ^ 117) row.now }
-    ensures first { result.multiplier ≡ pos 0 }
-    ensures best { IsBest row.now.mix.now.lattice (part_at row.now) result.multiplier result.part result.between.low result.between.high }
+    requires multiplier { FitsRow row.now multiplier }
+    ensures exact { result.multiplier ≡ multiplier }
+    ensures best { IsBestOf row.now result }
 {
-    let part = row_part(row, 0);
+    let part = row_part(row, multiplier);
     let all = Between {
         low: -FARTHEST,
         high: FARTHEST,
     };
     Best {
-        multiplier: 0,
+        multiplier,
         part: part.height,
-        between: narrowed(all, 0, row.mix.parts(), part.counts),
+        between: narrowed(all, multiplier, row.mix.parts(), part.counts),
     }
 }
 
@@ -125,10 +133,10 @@ fn first(row: &Row<'_>) -> Best
 #[tactic(auto, using(crate::proofs::Betters::comparing))]
 fn better(row: &Row<'_>, best: Best, other: i128) -> Best
     requires row { CanRow (2 ^ 117) row.now }
-    requires other { unsigned_abs other * row.now.mix.now.lattice ≤ 2 ^ 117 }
-    requires best { IsBest row.now.mix.now.lattice (part_at row.now) best.multiplier best.part best.between.low best.between.high }
+    requires other { FitsRow row.now other }
+    requires best { IsBestOf row.now best }
     ensures exact { result.multiplier ≡ first_greatest (part_at row.now) best.multiplier (other ∷ []) }
-    ensures best { IsBest row.now.mix.now.lattice (part_at row.now) result.multiplier result.part result.between.low result.between.high }
+    ensures best { IsBestOf row.now result }
 {
     if other <= best.between.low {
         return best;
@@ -159,14 +167,65 @@ fn best_with(row: &Row<'_>, site: usize, best: Best) -> Best
     requires row { CanRow (2 ^ 117) row.now }
     requires slopes { AreSlopes row.now.mix.now.lattice (2 ^ 116) (slopes_at row.now) }
     requires site { site < length row.now.sites.now }
-    requires best { IsBest row.now.mix.now.lattice (part_at row.now) best.multiplier best.part best.between.low best.between.high }
-    ensures exact { result.multiplier ≡ first_greatest (part_at row.now) best.multiplier (secants (mixing_of row.now) (at (slopes_at row.now) site ∷ []) (record { low = slice_index row.now.low.now site; high = slice_index row.now.high.now site } ∷ [])) }
-    ensures best { IsBest row.now.mix.now.lattice (part_at row.now) result.multiplier result.part result.between.low result.between.high }
+    requires best { IsBestOf row.now best }
+    ensures exact { result.multiplier ≡ first_greatest (part_at row.now) best.multiplier (secants_of row.now site) }
+    ensures best { IsBestOf row.now result }
 {
     if row.low[site] < row.high[site] {
         better(row, best, secant(row, site))
     } else {
         best
+    }
+}
+
+/// The first site that has a secant, if there is one.
+#[tactic(auto, using(crate::proofs::Secants::opening))]
+fn first_open(row: &Row<'_>) -> Option<usize>
+    requires row { CanRow (2 ^ 117) row.now }
+    ensures found { (site : ℕ) → result ≡ Some site → IsFirstOpen row.now site }
+    ensures none { result ≡ None → all_secants row.now ≡ [] }
+{
+    'each: for site in 0..row.sites.len() {
+        if row.low[site] < row.high[site] {
+            return Some(site);
+        }
+    }
+    None
+}
+
+/// Whether 0 lies outside, and so gives less than the best.
+#[tactic(auto, using(crate::proofs::Betters::zeros))]
+fn leaves_out_zero(between: Between) -> bool
+    ensures { OnTrue result (IsOutside between (pos 0)) }
+{
+    if between.low < between.high {
+        if 0 < between.low {
+            true
+        } else {
+            between.high < 0
+        }
+    } else {
+        false
+    }
+}
+
+/// The best of the secants, or 0 where that is as good.
+#[tactic(auto, using(crate::proofs::Betters::zeros))]
+fn with_zero(row: &Row<'_>, best: Best) -> i128
+    requires row { CanRow (2 ^ 117) row.now }
+    requires best { IsBestOf row.now best }
+    requires chosen { IsFirstGreatest (part_at row.now) (all_secants row.now) best.multiplier }
+    ensures chosen { IsFirstGreatest (part_at row.now) (candidates_at row.now) result }
+    ensures size { FitsRow row.now result }
+{
+    if leaves_out_zero(best.between) {
+        return best.multiplier;
+    }
+    let part = row_part(row, 0);
+    if part.height < best.part {
+        best.multiplier
+    } else {
+        0
     }
 }
 
@@ -176,11 +235,14 @@ pub fn choose_row(row: &Row<'_>) -> i128
     requires row { CanRow (2 ^ 117) row.now }
     requires slopes { AreSlopes row.now.mix.now.lattice (2 ^ 116) (slopes_at row.now) }
     ensures chosen { IsFirstGreatest (part_at row.now) (candidates_at row.now) result }
-    ensures size { unsigned_abs result * row.now.mix.now.lattice ≤ 2 ^ 117 }
+    ensures size { FitsRow row.now result }
 {
-    let mut best = first(row);
-    'each: for site in 0..row.sites.len() {
+    let Some(start) = first_open(row) else {
+        return 0;
+    };
+    let mut best = first(row, secant(row, start));
+    'each: for site in start + 1..row.sites.len() {
         best = best_with(row, site, best);
     }
-    best.multiplier
+    with_zero(row, best)
 }

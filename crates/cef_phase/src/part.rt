@@ -1,9 +1,7 @@
 //! The part of one sublattice in the bound of a box.
 
-ghost use Rattle.std.specs.Prelude.{◌≡◌, ◌≤◌, ◌<◌, ◌+◌, ◌*◌, ◌^◌, ℤ, pos, length, slice_index, ◌+ℤ◌, ◌-ℤ◌, ◌*ℤ◌, ◌≤ℤ◌, unsigned_abs};
-ghost use Rattle.cal_math.specs.Vectors.{at};
-ghost use Rattle.cef_mix.specs.Mixes.{IsLeastOn};
-ghost use Rattle.cef_phase.specs.Walks.{CanRow, mixing_of, slopes_at, part_at};
+ghost use Rattle.std.specs.Prelude.{◌≡◌, ◌≤◌, ◌<◌, ◌+◌, ◌*◌, ◌^◌, length, unsigned_abs};
+ghost use Rattle.cef_phase.specs.Walks.{CanRow, FitsRow, IsSiteLeast, IsUnderLine, part_at};
 
 use crate::row::Row;
 use crate::slope::{share, slope_at};
@@ -15,8 +13,8 @@ use cef_mix::Least;
 fn site_least(row: &Row<'_>, site: usize, multiplier: i128) -> Least
     requires row { CanRow (2 ^ 117) row.now }
     requires site { site < length row.now.sites.now }
-    requires multiplier { unsigned_abs multiplier * row.now.mix.now.lattice ≤ 2 ^ 117 }
-    ensures least { IsLeastOn (mixing_of row.now) (at (slopes_at row.now) site +ℤ multiplier) (slice_index row.now.low.now site) (slice_index row.now.high.now site) result.place result.height }
+    requires multiplier { FitsRow row.now multiplier }
+    ensures least { IsSiteLeast row.now site multiplier result }
     ensures size { unsigned_abs result.height ≤ 2 ^ 119 }
     ensures within { result.place ≤ row.now.mix.now.lattice }
 {
@@ -37,10 +35,10 @@ pub struct Part {
 #[tactic(auto, using(crate::proofs::Rows::row))]
 pub fn row_part(row: &Row<'_>, multiplier: i128) -> Part
     requires row { CanRow (2 ^ 117) row.now }
-    requires multiplier { unsigned_abs multiplier * row.now.mix.now.lattice ≤ 2 ^ 117 }
+    requires multiplier { FitsRow row.now multiplier }
     ensures exact { result.height ≡ part_at row.now multiplier }
     ensures size { unsigned_abs result.height ≤ 2 ^ 119 * length row.now.sites.now + 2 ^ 117 }
-    ensures line { (other : ℤ) → part_at row.now other ≤ℤ (result.height +ℤ (other -ℤ multiplier) *ℤ (pos row.now.mix.now.lattice -ℤ pos result.counts)) }
+    ensures line { IsUnderLine row.now multiplier result }
 {
     let mut height = share(multiplier, row.mix.parts());
     let mut counts = 0;

@@ -5,7 +5,7 @@ use Rattle.std.proofs.lemmas.Int.{to_z-of_z}
 use Rattle.std.proofs.lemmas.Grind.{common_steps}
 use Rattle.cal_limits.specs.declared.TheConstants.{MOST_ENERGY}
 use Rattle.cef_mix.specs.Tables.{entry}
-use Rattle.cef_mix.proofs.Rises.{rises-more, small-more}
+use Rattle.cef_mix.proofs.Rises.{rises-more, rises_small-more}
 use Rattle.cef_mix.proofs.table.rises_of.Goals as goal
 
 pub each-preserved : goal.each-preserved
@@ -20,5 +20,5 @@ each-preserved c =
     record {
       count = grind (arith, common_steps);
       entries = λ j lt. rw c.in_ok-push.ensures.items (simp to_z-of_z (rises-more c.args.energies.now c.each.rises.items (c.each.k - 1) c.rise.result (omega (arith, c.each.invariant.count)) (λ i less. c.each.invariant.entries i (omega arith)) same j (omega arith)));
-      small = rw c.in_ok-push.ensures.items (simp to_z-of_z (small-more c.each.rises.items c.rise.result c.each.invariant.small size));
+      small = rw c.in_ok-push.ensures.items (simp to_z-of_z (rises_small-more c.each.rises.items c.rise.result c.each.invariant.small size));
     }

@@ -3,7 +3,7 @@ use Rattle.std.specs.Int.{w128}
 use Rattle.std.specs.Prelude.{pos}
 use Rattle.std.proofs.lemmas.Int.{to_z-of_z}
 use Rattle.cef_phase.specs.declared.row.Row.{Row}
-use Rattle.cef_phase.specs.Walks.{mixing_of, slopes_at, ranges_at, part_at}
+use Rattle.cef_phase.specs.Walks.{mixing_of, slopes_at, ranges_at, part_at, secant_of, all_secants, IsFirstOpen}
 use Rattle.cef_phase.proofs.Secants.{secants_step, secants_end}
 use Rattle.cef_phase.proofs.Slopes.{length-slopes_of, row_slopes}
 use Rattle.cef_phase.proofs.choose.choose_row.Goals as goal
@@ -17,9 +17,14 @@ each-preserved c =
       best = c.best_with-best.ensures.best;
     }
 
-pub returns-clause-chosen : goal.returns-clause-chosen
-returns-clause-chosen c =
+pub secant-requires-clause-site : goal.secant-requires-clause-site
+secant-requires-clause-site c =
+    let found : IsFirstOpen c.args.row.now c.in-Some.start = c.first_open.ensures.found c.in-Some.start c.in-Some.is in
+    found.there
+
+pub with_zero-requires-clause-chosen : goal.with_zero-requires-clause-chosen
+with_zero-requires-clause-chosen c =
     let row : Row = c.args.row.now in
-    let fits : SFits w128 c.each.best.multiplier = search rules in
+    let found : IsFirstOpen row c.in-Some.start = c.first_open.ensures.found c.in-Some.start c.in-Some.is in
     let all : length (slopes_at row) ≤ c.each.site = omega (arith, c.each-test.false, length-slopes_of row.potentials.now row.ratio row.sites.now) in
-    simp to_z-of_z (secants_end (part_at row) (mixing_of row) (slopes_at row) (ranges_at row) c.each.site c.each.best.multiplier all c.each.invariant.exact)
+    secants_end (part_at row) (mixing_of row) (slopes_at row) (ranges_at row) c.each.site c.each.best.multiplier (secant_of row c.in-Some.start) _ (all_secants row) all found.first c.each.invariant.exact
