@@ -28,6 +28,11 @@ pub record CanSolve (system : System) (asked : List ℤ) (gap : ℕ) : Type 0 wh
   pub gap_low : LEAST_GAP ≤ gap
   pub gap_high : gap ≤ MOST_GAP
 
+-- what a round starts from: what an equilibrium is asked of, and known constitutions with their columns
+pub record CanRound (system : System) (asked : List ℤ) (gap : ℕ) (known : List Entry) (columns : List Column) : Type 0 where
+  pub can : CanSolve system asked gap
+  pub are_known : AreKnown system known columns
+
 -- an equilibrium, or a constitution that was not known, with its column
 abbrev pub IsRound : System → (List ℤ → ℕ → Swept → Type 0) → List ℤ → ℕ → ℕ → List Entry → Round → Type 0
 IsRound system swept asked gap budget known (Done found) = IsFound system swept asked gap budget found × IsFeasible system asked

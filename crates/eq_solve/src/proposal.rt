@@ -3,8 +3,8 @@ ghost use Rattle.std.specs.Bool.{OnTrue};
 ghost use Rattle.cal_math.specs.Vectors.{at, sum_to, dot};
 ghost use Rattle.lp_basis.specs.Rows.{FitsProduct};
 ghost use Rattle.lp_core.specs.Plans.{IsPlan};
-ghost use Rattle.eq_solve.specs.Points.{AreKnown, IsConstitutionOf};
-ghost use Rattle.eq_solve.specs.Rounds.{CanSolve, IsGain, IsNewPoint};
+ghost use Rattle.eq_solve.specs.Points.{IsConstitutionOf};
+ghost use Rattle.eq_solve.specs.Rounds.{CanRound, IsGain, IsNewPoint};
 
 use crate::phases::Phases;
 use crate::point::{Gain, Point};
@@ -57,8 +57,7 @@ fn priced<P: Phases>(
 ) -> Result<Option<Point>, AllocError>
     requires ready { P.ready phases.now }
     requires same { P.system phases.now ≡ system.now }
-    requires can { CanSolve system.now asked.now gap }
-    requires known { AreKnown system.now known.now columns.now }
+    requires round { CanRound system.now asked.now gap known.now columns.now }
     requires plan { IsPlan columns.now asked.now plan.now }
     ensures { IfOk result (λ found. IsNewPoint system.now known.now found) }
 {
@@ -84,8 +83,7 @@ pub(crate) fn gain<P: Phases>(
 ) -> Result<Option<Gain>, AllocError>
     requires ready { P.ready phases.now }
     requires same { P.system phases.now ≡ system.now }
-    requires can { CanSolve system.now asked.now gap }
-    requires known { AreKnown system.now known.now columns.now }
+    requires round { CanRound system.now asked.now gap known.now columns.now }
     requires plan { IsPlan columns.now asked.now plan.now }
     ensures { IfOk result (λ found. IsGain system.now known.now found) }
 {

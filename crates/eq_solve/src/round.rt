@@ -2,9 +2,8 @@ ghost use Rattle.std.specs.Prelude.{◌≡◌, ℕ, ◌<◌, ◌≤◌, length, 
 ghost use Rattle.cef_report.specs.Holding.{IsBefore};
 ghost use Rattle.lp_core.specs.Plans.{IsPlan, IsProofOfNone};
 ghost use Rattle.eq_solve.specs.Answers.{IsFault};
-ghost use Rattle.eq_solve.specs.Points.{AreKnown};
 ghost use Rattle.eq_solve.specs.Sweeps.{IsBelow};
-ghost use Rattle.eq_solve.specs.Rounds.{CanSolve, IsRound, IsRising};
+ghost use Rattle.eq_solve.specs.Rounds.{CanRound, IsRound};
 
 use crate::alone::rising;
 use crate::amount::{amounts_of, entries_of};
@@ -36,8 +35,7 @@ fn planned<P: Phases>(
 ) -> Result<Round, SolveFault>
     requires ready { P.ready phases.now }
     requires same { P.system phases.now ≡ system.now }
-    requires can { CanSolve system.now asked.now gap }
-    requires known { AreKnown system.now known.now columns.now }
+    requires round { CanRound system.now asked.now gap known.now columns.now }
     requires order { AllPairs IsBefore known.now }
     requires plan { IsPlan columns.now asked.now plan }
     requires rising { AllPairs (λ v w. v.0 < w.0) plan.weights.items }
@@ -85,8 +83,7 @@ fn refused<P: Phases>(
 ) -> Result<Round, SolveFault>
     requires ready { P.ready phases.now }
     requires same { P.system phases.now ≡ system.now }
-    requires can { CanSolve system.now asked.now gap }
-    requires known { AreKnown system.now known.now columns.now }
+    requires round { CanRound system.now asked.now gap known.now columns.now }
     requires none { IsProofOfNone columns.now asked.now v.items }
     ensures round { IfOk result (λ round. IsRound system.now (P.swept phases.now) asked.now gap budget known.now round) }
     ensures fault { IfErr result (λ fault. IsFault system.now (P.swept phases.now) asked.now gap budget fault) }
@@ -114,8 +111,7 @@ pub(crate) fn round<P: Phases>(
 ) -> Result<Round, SolveFault>
     requires ready { P.ready phases.now }
     requires same { P.system phases.now ≡ system.now }
-    requires can { CanSolve system.now asked.now gap }
-    requires known { AreKnown system.now known.now columns.now }
+    requires round { CanRound system.now asked.now gap known.now columns.now }
     requires order { AllPairs IsBefore known.now }
     ensures round { IfOk result (λ round. IsRound system.now (P.swept phases.now) asked.now gap budget known.now round) }
     ensures fault { IfErr result (λ fault. IsFault system.now (P.swept phases.now) asked.now gap budget fault) }
