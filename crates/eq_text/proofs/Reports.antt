@@ -26,18 +26,18 @@ use Rattle.eq_text.proofs.Sayings.{AnyUnit, two_fixed, two_words_kind, end_words
 use Rattle.eq_text.proofs.Entries.{entry_kind}
 use Rattle.eq_text.proofs.Trees.{AreTrees, exact_trees}
 
-abbrev one_line : {A : Type 0} → (A → List Word) → A → List Line
+abbrev pub one_line : {A : Type 0} → (A → List Word) → A → List Line
 one_line words a = line (words a) ∷ []
 
 -- ---- entries
 
-abbrev AreEntries : List Word → List Entry → Type 0
+abbrev pub AreEntries : List Word → List Entry → Type 0
 AreEntries phases entries = (length entries ≤ MOST_ENTRIES) × AllByRecursion (IsSpelledEntry (length phases)) entries
 
-abbrev entries_lines : List Word → List Entry → List Line
+abbrev pub entries_lines : List Word → List Entry → List Line
 entries_lines phases entries = line (natural_words (codes "entries") (length entries)) ∷ spelled (entry_words phases) entries
 
-abbrev EntryRuns : List Word → ℕ → List Entry → Type 0
+abbrev pub EntryRuns : List Word → ℕ → List Entry → Type 0
 EntryRuns phases n entries = Runs entries_next (IsSpelledEntry (length phases)) n entries
 
 runs_from : (phases : List Word) (entries : List Entry) → AllByRecursion (IsSpelledEntry (length phases)) entries → EntryRuns phases (length entries) entries
@@ -65,26 +65,26 @@ exact_entries phases names =
 
 -- ---- the parts, from the last to the first
 
-abbrev closing_lines : List Word → Closing → List Line
+abbrev pub closing_lines : List Word → Closing → List Line
 closing_lines phases c = tree_lines phases c.0 ++ one_line end_words c.1
 
-abbrev IsClosing : List Word → Closing → Type 0
+abbrev pub IsClosing : List Word → Closing → Type 0
 IsClosing phases c = AreTrees phases c.0 × AnyUnit c.1
 
 exact_closing : (phases : List Word) → AreNames phases → Exact (closing_lines phases) (IsClosing phases) (closing_at phases)
 unfolding closing_at
 exact_closing phases names = exact_pair (tree_lines phases) (AreTrees phases) (each tree_at phases) (λ trees. one_line end_words) (λ trees. AnyUnit) (λ trees. of_line end_of) (exact_trees phases names.fine) (λ trees fits. exact_line end_words AnyUnit end_of end_kind)
 
-abbrev gap_lines : ℤ × List ℤ → List Line
+abbrev pub gap_lines : ℤ × List ℤ → List Line
 gap_lines x = one_line (integer_words (codes "gap")) x.0 ++ one_line (number_words (codes "potentials")) x.1
 
-abbrev IsGap : ℕ → ℤ × List ℤ → Type 0
+abbrev pub IsGap : ℕ → ℤ × List ℤ → Type 0
 IsGap n x = IsSize MOST_PRINTED_GAP x.0 × AreNumbers n x.1
 
-abbrev bounds_lines : Bounds → List Line
+abbrev pub bounds_lines : Bounds → List Line
 bounds_lines b = one_line (integer_words (codes "tolerance")) b.0 ++ gap_lines b.1
 
-abbrev AreBounds : ℕ → Bounds → Type 0
+abbrev pub AreBounds : ℕ → Bounds → Type 0
 AreBounds n b = IsSize MOST_TOLERANCE b.0 × IsGap n b.1
 
 exact_bounds : (n : ℕ) → Exact bounds_lines (AreBounds n) (bounds_at n)
@@ -98,16 +98,16 @@ exact_bounds n =
     (exact_line (integer_words (codes "gap")) (IsSize MOST_PRINTED_GAP) (size_after (codes "gap") MOST_PRINTED_GAP) (size_kind (codes "gap") MOST_PRINTED_GAP (plain_from (codes "gap") refl) (omega arith)))
     (λ g fits. exact_line (number_words (codes "potentials")) (AreNumbers n) (integers_after (codes "potentials") n MOST_NUMBER) (numbers_kind (codes "potentials") n (plain_from (codes "potentials") refl))))
 
-abbrev energy_lines : ℤ × Bounds → List Line
+abbrev pub energy_lines : ℤ × Bounds → List Line
 energy_lines x = one_line (integer_words (codes "energy")) x.0 ++ bounds_lines x.1
 
-abbrev IsEnergy : ℕ → ℤ × Bounds → Type 0
+abbrev pub IsEnergy : ℕ → ℤ × Bounds → Type 0
 IsEnergy n x = IsNumber x.0 × AreBounds n x.1
 
-abbrev sums_lines : Sums → List Line
+abbrev pub sums_lines : Sums → List Line
 sums_lines s = one_line (number_words (codes "total")) s.0 ++ energy_lines s.1
 
-abbrev AreSums : ℕ → Sums → Type 0
+abbrev pub AreSums : ℕ → Sums → Type 0
 AreSums n s = AreNumbers n s.0 × IsEnergy n s.1
 
 exact_sums : (n : ℕ) → Exact sums_lines (AreSums n) (sums_at n)
@@ -120,22 +120,22 @@ exact_sums n =
     (exact_line (integer_words (codes "energy")) IsNumber (integer_after (codes "energy") MOST_NUMBER) (integer_kind (codes "energy") MOST_NUMBER (plain_from (codes "energy") refl) (omega arith)))
     (λ e fits. exact_bounds n))
 
-abbrev summed_lines : List Word → Sums × Closing → List Line
+abbrev pub summed_lines : List Word → Sums × Closing → List Line
 summed_lines phases x = sums_lines x.0 ++ closing_lines phases x.1
 
-abbrev AreSummed : ℕ → List Word → Sums × Closing → Type 0
+abbrev pub AreSummed : ℕ → List Word → Sums × Closing → Type 0
 AreSummed n phases x = AreSums n x.0 × IsClosing phases x.1
 
-abbrev listed_lines : List Word → List Entry × (Sums × Closing) → List Line
+abbrev pub listed_lines : List Word → List Entry × (Sums × Closing) → List Line
 listed_lines phases x = entries_lines phases x.0 ++ summed_lines phases x.1
 
-abbrev AreListed : ℕ → List Word → List Entry × (Sums × Closing) → Type 0
+abbrev pub AreListed : ℕ → List Word → List Entry × (Sums × Closing) → Type 0
 AreListed n phases x = AreEntries phases x.0 × AreSummed n phases x.1
 
-abbrev body_lines : List Word → Body → List Line
+abbrev pub body_lines : List Word → Body → List Line
 body_lines phases b = one_line (number_words (codes "asked")) b.0 ++ listed_lines phases b.1
 
-abbrev IsBody : ℕ → List Word → Body → Type 0
+abbrev pub IsBody : ℕ → List Word → Body → Type 0
 IsBody n phases b = AreAsked n b.0 × AreListed n phases b.1
 
 exact_body : (n : ℕ) (phases : List Word) → AreNames phases → Exact (body_lines phases) (IsBody n phases) (body_at n phases)
@@ -147,10 +147,10 @@ exact_body n phases names =
     (exact_entries phases names)
     (λ entries fits. exact_pair sums_lines (AreSums n) (sums_at n) (λ sums. closing_lines phases) (λ sums. IsClosing phases) (λ sums. closing_at phases) (exact_sums n) (λ sums fits. exact_closing phases names)))
 
-abbrev phases_lines : List Word × Body → List Line
+abbrev pub phases_lines : List Word × Body → List Line
 phases_lines p = one_line (names_words (codes "phases")) p.0 ++ body_lines p.0 p.1
 
-abbrev ArePhases : ℕ → List Word × Body → Type 0
+abbrev pub ArePhases : ℕ → List Word × Body → Type 0
 ArePhases n p = AreNamesWithin None p.0 × IsBody n p.0 p.1
 
 exact_phases : (n : ℕ) → Exact phases_lines (ArePhases n) (phases_at n)
@@ -159,10 +159,10 @@ exact_phases n = exact_pair (one_line (names_words (codes "phases"))) (AreNamesW
     (exact_line (names_words (codes "phases")) (AreNamesWithin None) (names_after (codes "phases") None) (names_kind (codes "phases") None (plain_from (codes "phases") refl) tt))
     (λ phases names. exact_body n phases names.0)
 
-abbrev named_lines : Named → List Line
+abbrev pub named_lines : Named → List Line
 named_lines e = one_line (names_words (codes "elements")) e.0 ++ phases_lines e.1
 
-abbrev IsNamed : Named → Type 0
+abbrev pub IsNamed : Named → Type 0
 IsNamed e = AreNamesWithin (Some MOST_ELEMENTS) e.0 × ArePhases (length e.0) e.1
 
 exact_named : Exact named_lines IsNamed named_at
@@ -171,25 +171,25 @@ exact_named = exact_pair (one_line (names_words (codes "elements"))) (AreNamesWi
     (exact_line (names_words (codes "elements")) (AreNamesWithin (Some MOST_ELEMENTS)) (names_after (codes "elements") (Some MOST_ELEMENTS)) (names_kind (codes "elements") (Some MOST_ELEMENTS) (plain_from (codes "elements") refl) (omega arith)))
     (λ e names. exact_phases (length e))
 
-abbrev lattice_lines : ℕ × Named → List Line
+abbrev pub lattice_lines : ℕ × Named → List Line
 lattice_lines x = one_line (natural_words (codes "lattice")) x.0 ++ named_lines x.1
 
-abbrev IsOnLattice : ℕ × Named → Type 0
+abbrev pub IsOnLattice : ℕ × Named → Type 0
 IsOnLattice x = IsLattice x.0 × IsNamed x.1
 
-abbrev temperature_lines : ℕ × (ℕ × Named) → List Line
+abbrev pub temperature_lines : ℕ × (ℕ × Named) → List Line
 temperature_lines x = one_line (natural_words (codes "temperature")) x.0 ++ lattice_lines x.1
 
-abbrev IsAtTemperature : ℕ × (ℕ × Named) → Type 0
+abbrev pub IsAtTemperature : ℕ × (ℕ × Named) → Type 0
 IsAtTemperature x = IsTemperature x.0 × IsOnLattice x.1
 
-abbrev whole_lines : Whole → List Line
+abbrev pub whole_lines : Whole → List Line
 whole_lines w = one_line (two_fixed (codes "equilibrium") (codes "1")) w.0 ++ temperature_lines w.1
 
-abbrev IsWhole : Whole → Type 0
+abbrev pub IsWhole : Whole → Type 0
 IsWhole w = AnyUnit w.0 × IsAtTemperature w.1
 
-exact_report : Exact whole_lines IsWhole report_at
+pub exact_report : Exact whole_lines IsWhole report_at
 unfolding report_at
 exact_report =
     let header = two_words_of (codes "equilibrium") (codes "1") in
@@ -227,7 +227,7 @@ report_from w =
       trees = body.1.1.1.0;
     }
 
-is_spelled : (r : Report) → IsWhole (fields r) → IsSpelled r
+pub is_spelled : (r : Report) → IsWhole (fields r) → IsSpelled r
 is_spelled r fits =
     let named = fits.1.1.1 in
     let body = named.1.1 in
@@ -254,7 +254,7 @@ is_spelled r fits =
       trees = trees.1;
     }
 
-is_whole : (r : Report) → IsSpelled r → IsWhole (fields r)
+pub is_whole : (r : Report) → IsSpelled r → IsWhole (fields r)
 is_whole r s = (
   tt,
   (
@@ -272,7 +272,7 @@ is_whole r s = (
   ),
 )
 
-seen : Seen fields report_from lines IsSpelled whole_lines IsWhole
+pub seen : Seen fields report_from lines IsSpelled whole_lines IsWhole
 unfolding head_lines entry_lines sum_lines end_lines
 seen = record { view_back = λ w. refl; back_view = λ r. refl; spells = λ r. refl; to_view = is_whole; from_view = is_spelled }
 

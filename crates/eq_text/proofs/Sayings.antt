@@ -91,7 +91,7 @@ end_kind = record {
 abbrev pub natural_words : Word → ℕ → List Word
 natural_words key n = key ∷ decimal n ∷ []
 
-natural_kind : (key : Word) (limit : ℕ) → IsWord key → limit < 10 ^ 64 → Kind (natural_words key) (λ n. n ≤ limit) (natural_after key limit)
+pub natural_kind : (key : Word) (limit : ℕ) → IsWord key → limit < 10 ^ 64 → Kind (natural_words key) (λ n. n ≤ limit) (natural_after key limit)
 natural_kind key limit is_key small = record {
   found = λ ws n e. found ws n e;
   again = λ n fits. rw (same-again key) (natural-again limit n (omega (arith, fits)) fits);
@@ -186,7 +186,7 @@ size_kind key limit is_key small =
 
 -- ---- many numbers
 
-abbrev AreUpTo : ℕ → ℕ → List ℤ → Type 0
+abbrev pub AreUpTo : ℕ → ℕ → List ℤ → Type 0
 AreUpTo n limit vs = (length vs ≡ n) × AllByRecursion (IsUpTo limit) vs
 
 length_map : (vs : List ℤ) → length (map signed_decimal vs) ≡ length vs

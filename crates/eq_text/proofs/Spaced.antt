@@ -8,7 +8,7 @@ use Rattle.cal_scan.specs.Lines.{Word, line}
 use Rattle.cef_report.specs.Texts.{number_words, counts_words, more_counts}
 use Rattle.eq_text.specs.Spacing.{spaced, spelled, sublattice_words}
 
-joined_words : (w : Word) (ws : List Word) → join_with_byte 32 (w ∷ ws) ≡ w ++ spelled ws
+pub joined_words : (w : Word) (ws : List Word) → join_with_byte 32 (w ∷ ws) ≡ w ++ spelled ws
 joined_words w [] = sym (append-nil w)
 joined_words w (v ∷ ws) = ap (λ (z : List ℕ). w ++ 32 ∷ z) (joined_words v ws)
 

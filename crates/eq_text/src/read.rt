@@ -8,4 +8,6 @@ mod report;
 mod sums;
 mod tree;
 
-pub use report::read_report;
+pub use head::two_words_line;
+pub use numbers::{integers_line, natural_after};
+pub use report::{next_report, read_report};

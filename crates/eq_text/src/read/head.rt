@@ -69,7 +69,7 @@ fn lattice_of(words: &[&[u8]]) -> Option<u32>
     if is_lattice(parts) { Some(parts) } else { None }
 }
 
-pub(crate) fn two_words_line<'a>(
+pub fn two_words_line<'a>(
     alloc: Global,
     first: &[u8],
     second: &[u8],

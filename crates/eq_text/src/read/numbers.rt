@@ -14,7 +14,7 @@ use cal_scan::is_word;
 use std::alloc::{AllocError, Global};
 
 /// A key and a number from 0 to the limit.
-pub(crate) fn natural_after(words: &[&[u8]], key: &[u8], limit: u128) -> Option<u128>
+pub fn natural_after(words: &[&[u8]], key: &[u8], limit: u128) -> Option<u128>
     requires { limit ≤ MOST_NUMBER }
     ensures value { result ≡ kinds.natural_after key.now limit (texts words.now) }
     ensures bound { IfSome result (λ n. n ≤ limit) }
@@ -134,7 +134,7 @@ pub(crate) fn size_line<'a>(
 }
 
 /// A key and so many numbers.
-pub(crate) fn integers_line<'a>(
+pub fn integers_line<'a>(
     alloc: Global,
     key: &[u8],
     count: usize,

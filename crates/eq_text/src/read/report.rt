@@ -108,8 +108,9 @@ fn report_of(t: u32, lattice: u32, named: Named) -> Report
     }
 }
 
+/// The report whose lines begin at a place, and the place behind it.
 #[tactic(auto, unfolding(crate::specs::Parsing::report_at, cal_lines::specs::Reading::both))]
-fn report<'a>(alloc: Global, at: Place<'a>) -> Result<(Report, Place<'a>), TextFault>
+pub fn next_report<'a>(alloc: Global, at: Place<'a>) -> Result<(Report, Place<'a>), TextFault>
     ensures { ReadsAs fields result report_at at.entry }
 {
     let ((), after) = two_words_line(alloc, b"equilibrium", b"1", at)?;
@@ -124,7 +125,7 @@ fn all(alloc: Global, bytes: &[u8]) -> Result<Report, TextFault>
     requires { length bytes.now ≤ MOST_REPORT_BYTES }
     ensures { Gives fields result (all_of (1, lines_of bytes.now)) }
 {
-    let (found, after) = report(alloc, Place::start(bytes))?;
+    let (found, after) = next_report(alloc, Place::start(bytes))?;
     after.expect_end()?;
     Ok(found)
 }

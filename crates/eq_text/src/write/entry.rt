@@ -39,7 +39,7 @@ fn put_sublattice(
 }
 
 /// The counts of all sublattices.
-fn put_site(alloc: Global, out: &mut Vec<u8>, site: &Site) -> Result<(), AllocError>
+pub fn put_site(alloc: Global, out: &mut Vec<u8>, site: &Site) -> Result<(), AllocError>
     ensures { OnOk result (out.new.items ≡ out.old.items ++ spelled (counts_words site.now)) }
 {
     'places: for place in 0..site.sublattices() {

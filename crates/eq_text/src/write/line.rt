@@ -11,7 +11,7 @@ use cef_core::Name;
 use std::alloc::{AllocError, Global};
 
 /// A space and the word.
-pub(crate) fn put_word(out: &mut Vec<u8>, word: &[u8]) -> Result<(), AllocError>
+pub fn put_word(out: &mut Vec<u8>, word: &[u8]) -> Result<(), AllocError>
     ensures { OnOk result (out.new.items ≡ out.old.items ++ spaced word.now) }
 {
     out.push(b' ')?;
@@ -38,7 +38,7 @@ pub(crate) fn put_count(alloc: Global, out: &mut Vec<u8>, value: u64) -> Result<
 }
 
 /// The key and the numbers.
-pub(crate) fn put_numbers_line(
+pub fn put_numbers_line(
     alloc: Global,
     out: &mut Vec<u8>,
     key: &[u8],
@@ -56,7 +56,7 @@ pub(crate) fn put_numbers_line(
 
 /// The key and the number, which is never below 0.
 #[tactic(auto, unfolding(cal_scan::specs::Lines::line))]
-pub(crate) fn put_count_line(
+pub fn put_count_line(
     alloc: Global,
     out: &mut Vec<u8>,
     key: &[u8],
