@@ -1,0 +1,249 @@
+#!/usr/bin/env python3
+"""A second checker of certificates, for who does not trust the first: slow, plain, and no part of what is proved.
+
+    tools/second_check.py DATABASE REPORT
+
+It prints `accepted 1`, or the line of the refusal, and ends with 0 or with the status of the README's table. It is written from
+docs/DEFINITIONS.md and docs/FORMAT.md, with Python's standard library alone, and shares no line with the program.
+"""
+
+import re
+import sys
+
+from database import NAME, Database, Refused, System
+
+LATTICES = (10, 20, 25, 40, 50, 100, 125, 200, 250, 500, 1000)
+
+
+def broken(line, rule):
+    return Refused(5, f"refused report line {line} rule {rule}")
+
+
+# ---- the text of a report
+
+WHOLE = re.compile(r"0|-?[1-9][0-9]*")
+
+
+class Lines:
+    """The lines of a report, from the front; the first at which no text goes on is refused."""
+
+    def __init__(self, data):
+        self.lines, self.at = data.decode("latin-1").split("\n"), 0
+        self.whole = len(self.lines) - 1
+
+    def fault(self):
+        return broken(self.at, "text")
+
+    def next(self, word):
+        """The words of the next line behind its first, which is given."""
+        self.at += 1
+        words = self.lines[self.at - 1].split(" ") if self.at <= self.whole else []
+        if words[:1] != [word]:
+            raise self.fault()
+        return words[1:]
+
+    def number(self, text, low=-(2**120), high=2**120):
+        if not WHOLE.fullmatch(text) or not low <= int(text) <= high:
+            raise self.fault()
+        return int(text)
+
+    def numbers(self, word, count, low=-(2**120), high=2**120):
+        words = self.next(word)
+        if len(words) != count:
+            raise self.fault()
+        return [self.number(w, low, high) for w in words]
+
+    def names(self, word, most):
+        words = self.next(word)
+        if not 1 <= len(words) <= most or len(set(words)) < len(words) or not all(NAME.fullmatch(w) for w in words):
+            raise self.fault()
+        return words
+
+    def node(self):
+        """A node, with its line."""
+        word, *rest = self.lines[self.at].split(" ") if self.at < self.whole else [""]
+        self.next(word)
+        if word == "S" and len(rest) == 2:
+            return self.at, "S", [self.number(w, 0, 65535) for w in rest]
+        if word == "L" and rest:
+            return self.at, "L", [self.number(w) for w in rest]
+        if word == "E" and not rest:
+            return self.at, "E", []
+        raise self.fault()
+
+
+class Report:
+    """A report, with the line of each part."""
+
+    def __init__(self, data):
+        lines, self.line = Lines(data), {}
+        if lines.next("equilibrium") != ["1"]:
+            raise lines.fault()
+        self.t = lines.numbers("temperature", 1, 100, 600000)[0]
+        self.n = lines.numbers("lattice", 1)[0]
+        if self.n not in LATTICES:
+            raise lines.fault()
+        self.elements, self.phases = lines.names("elements", 8), lines.names("phases", len(data))
+        count = len(self.elements)
+        self.asked = lines.numbers("asked", count, 0, 2**50)
+        self.entries = [self.entry(lines) for _ in range(lines.numbers("entries", 1, 0, 32)[0])]
+        for name, size, low, high in (
+            ("total", count, -(2**120), 2**120),
+            ("energy", 1, -(2**120), 2**120),
+            ("tolerance", 1, 0, 2**60),
+            ("gap", 1, 0, 2**110),
+            ("potentials", count, -(2**120), 2**120),
+        ):
+            found = lines.numbers(name, size, low, high)
+            setattr(self, name, found if size == count and name in ("total", "potentials") else found[0])
+            self.line[name] = lines.at
+        self.trees = [self.tree(lines, name) for name in self.phases]
+        if lines.next("end"):
+            raise lines.fault()
+        lines.at += 1
+        if lines.lines[lines.at - 1 :] != [""]:
+            raise lines.fault()
+
+    def entry(self, lines):
+        words = lines.next("entry")
+        if len(words) < 3 or words[0] not in self.phases:
+            raise lines.fault()
+        rows = [part.split(" ") for part in " ".join(words[2:]).split(" : ")]
+        if len(rows) > 10 or sum(map(len, rows)) > 90:
+            raise lines.fault()
+        counts = [[lines.number(w, 0, 65535) for w in row] for row in rows]
+        return lines.at, self.phases.index(words[0]), lines.number(words[1], 1, 2**50), counts
+
+    def tree(self, lines, name):
+        if lines.next("tree") != [name]:
+            raise lines.fault()
+        nodes, open_parts = [], 1
+        while open_parts:
+            nodes.append(lines.node())
+            open_parts += 1 if nodes[-1][1] == "S" else -1
+        return nodes
+
+
+# ---- the rules
+
+
+def tightened(n, box):
+    """The box whose ranges are the counts that members take there, or None where there is no member."""
+    found = []
+    for row in box:
+        low, high = sum(a for a, _ in row), sum(b for _, b in row)
+        if any(a > b for a, b in row) or low > n or high < n:
+            return None
+        found.append([(max(a, n - high + b), min(b, n - low + a)) for a, b in row])
+    return found
+
+
+def slope(phase, potentials, s, i):
+    component = phase.sites[s][i]
+    return 0 if component is None else potentials[component] * phase.ratios[s]
+
+
+def bound(phase, potentials, box, multipliers):
+    """2^16 times the lows, and of each sublattice its multiplier times N and the least of each site."""
+    found = 65536 * phase.lows(box)
+    for s, row in enumerate(box):
+        heights = phase.mixing(s)
+        found += multipliers[s] * phase.n
+        for i, (low, high) in enumerate(row):
+            m = slope(phase, potentials, s, i) + multipliers[s]
+            found += min(65536 * heights[k] - m * k for k in range(low, high + 1))
+    return found
+
+
+def parts(phase, box, place, at):
+    """The two parts of a box at a place over all sublattices, both tightened, or None where there is no such part."""
+    s, i = 0, place
+    while s < len(box) and i >= len(box[s]):
+        i, s = i - len(box[s]), s + 1
+    if s == len(box) or not box[s][i][0] <= at < box[s][i][1]:
+        return None
+    halves = []
+    for cut_range in ((box[s][i][0], at), (at + 1, box[s][i][1])):
+        part = [list(row) for row in box]
+        part[s][i] = cut_range
+        halves.append(tightened(phase.n, part))
+    return halves
+
+
+def judge_tree(phase, potentials, nodes):
+    """The nodes in order, each over the box that it stands for."""
+    boxes = [tightened(phase.n, [[(0, phase.n)] * len(row) for row in phase.sites])]
+    for line, kind, numbers in nodes:
+        box, well = boxes.pop(), False
+        if kind == "S":
+            halves = parts(phase, box, *numbers)
+            well = halves is not None
+            boxes += reversed(halves or [])
+        elif kind == "E":
+            counts = [[a for a, _ in row] for row in box]
+            single = all(a == b for row in box for a, b in row)
+            well = single and not any(k for row, sites in zip(counts, phase.sites) for k, c in zip(row, sites) if c is not None)
+        elif len(numbers) == len(box) and all(abs(x) * phase.n <= 2**117 for x in numbers):
+            well = bound(phase, potentials, box, numbers) >= 0
+        if not well:
+            raise broken(line, "tree")
+
+
+def is_constitution(phase, counts):
+    if [len(row) for row in counts] != [len(row) for row in phase.sites] or any(sum(row) != phase.n for row in counts):
+        return False
+    return any(k and c is not None for row, sites in zip(counts, phase.sites) for k, c in zip(row, sites))
+
+
+def judge(system, report):
+    """Every rule, in the order of the lines."""
+    if report.elements != system.elements:
+        raise broken(4, "system")
+    if report.phases != [phase.name for phase in system.phases]:
+        raise broken(5, "system")
+    last = None
+    for line, place, _, counts in report.entries:
+        key = (place, [k for row in counts for k in row])
+        if not is_constitution(system.phases[place], counts) or (last is not None and key <= last):
+            raise broken(line, "entry")
+        last = key
+    amounts = [(system.phases[place], amount, counts) for _, place, amount, counts in report.entries]
+    totals = [sum(n * phase.content(counts, c) for phase, n, counts in amounts) for c in range(len(system.elements))]
+    energy = sum(n * phase.energy(counts) for phase, n, counts in amounts)
+    worth = sum(m * b for m, b in zip(report.potentials, report.total))
+    for rule, well in (
+        ("total", report.total == totals),
+        ("energy", report.energy == energy),
+        ("tolerance", all(abs(b - a) <= report.tolerance for a, b in zip(report.asked, report.total))),
+        ("gap", 65536 * report.energy - worth <= 65536 * report.gap),
+        ("potentials", all(abs(m) * system.widest <= 2**117 for m in report.potentials)),
+    ):
+        if not well:
+            raise broken(report.line[rule], rule)
+    for phase, nodes in zip(system.phases, report.trees):
+        judge_tree(phase, report.potentials, nodes)
+
+
+def main(words):
+    sys.setrecursionlimit(10**6)
+    try:
+        if len(words) != 2:
+            raise Refused(1, "refused usage")
+        try:
+            texts = [open(name, "rb").read() for name in words]
+        except OSError:
+            raise Refused(6, "refused read") from None
+        if len(texts[0]) > 2**24 or len(texts[1]) > 2**28:
+            raise Refused(8, "refused long")
+        db = Database(texts[0].decode("latin-1"))
+        report = Report(texts[1])
+        judge(System(db, report.t, report.n, report.elements, report.phases), report)
+    except Refused as refusal:
+        print(refusal)
+        return refusal.status
+    print("accepted 1")
+    return 0
+
+
+if __name__ == "__main__":
+    sys.exit(main(sys.argv[1:]))
