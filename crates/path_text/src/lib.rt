@@ -1,0 +1,13 @@
+//! The text of a path, written and read, and of a document: a report or a path.
+#![tactic(auto)]
+
+mod document;
+mod kind;
+mod lines;
+mod parts;
+mod reading;
+mod write;
+
+pub use document::read_document;
+pub use kind::Document;
+pub use write::{write_finish, write_head, write_step};
