@@ -1,0 +1,16 @@
+pub mod Steps
+pub mod Rooms
+pub mod Interactions
+pub mod Lists
+pub mod Levels
+pub mod Sums
+pub mod Products
+pub mod Planes
+pub mod Sites
+pub mod Below
+pub mod Parts
+pub mod Arrays
+pub mod Linked
+pub mod Given
+pub mod Bounds
+pub mod Laws

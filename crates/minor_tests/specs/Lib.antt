@@ -1,0 +1,2 @@
+-- The phases that tests of minorants are made of.
+pub mod Samples
