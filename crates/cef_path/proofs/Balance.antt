@@ -18,7 +18,7 @@ use Rattle.cef_path.specs.declared.path.PathText.{PathText}
 use Rattle.cef_path.specs.Ledgers.{is_of, solid_total, IsLeft}
 use Rattle.cef_path.specs.Paths.{asked_at, IsStep, solids_of, lost_of, PathHolds}
 
-parted : (f : Entry → ℤ) (p : Entry → Bool) (entries : List Entry) → sum_of f entries ≡ sum_of f (filter p entries) +ℤ sum_of f (filter (λ e. not (p e)) entries)
+pub parted : (f : Entry → ℤ) (p : Entry → Bool) (entries : List Entry) → sum_of f entries ≡ sum_of f (filter p entries) +ℤ sum_of f (filter (λ e. not (p e)) entries)
 parted f p [] = refl
 parted f p (e ∷ es) = by (p e) refl (parted f p es)
   where
@@ -66,7 +66,7 @@ sums systems liquid asked (s ∷ ss) each c lt =
     let last = ap (λ (l : List ℤ). at l c) (next_asked asked s ss (length ss)) in
     omega (arith, ints, rest, part, is_asked, last)
 
-last_left : (asked : List ℤ) (steps : List StepText) (last : StepText) → slice_get steps (length steps - 1) ≡ Some last → asked_at asked steps (length steps) ≡ last.left
+pub last_left : (asked : List ℤ) (steps : List StepText) (last : StepText) → slice_get steps (length steps - 1) ≡ Some last → asked_at asked steps (length steps) ≡ last.left
 last_left asked [] last e = absurd cc
 last_left asked (s ∷ ss) last e =
     let longer : length (s ∷ ss) ≡ suc (length ss) = omega arith in

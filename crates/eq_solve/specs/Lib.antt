@@ -1,5 +1,6 @@
 -- What is claimed: which equilibria are answered, and why there is none.
 pub mod Answers
+pub mod Equilibria
 pub mod Sweeps
 pub mod Modelled
 -- Workings: known constitutions and their columns, rounds over them, and the numbers of a plan.

@@ -1,0 +1,11 @@
+pub mod Numbers
+pub mod Ordering
+pub mod Elements
+pub mod Totals
+pub mod Accounting
+pub mod Walking
+pub mod Losing
+pub mod Walked
+pub mod Fine
+pub mod Outcomes
+pub mod Faults
