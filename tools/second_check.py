@@ -3,8 +3,9 @@
 
     tools/second_check.py DATABASE REPORT
 
-It prints `accepted 1`, or the line of the refusal, and ends with 0 or with the status of the README's table. It is written from
-docs/DEFINITIONS.md and docs/FORMAT.md, with Python's standard library alone, and shares no line with the program.
+The report may be a path. It prints `accepted 1`, or as many as the path has steps, or the line of the refusal, and ends with 0 or with the
+status of the README's table. It is written from docs/DEFINITIONS.md and docs/FORMAT.md, with Python's standard library alone, and shares
+no line with the program.
 """
 
 import re
@@ -33,6 +34,10 @@ class Lines:
 
     def fault(self):
         return broken(self.at, "text")
+
+    def peek(self):
+        """The first word of the next line."""
+        return self.lines[self.at].split(" ")[0] if self.at < self.whole else ""
 
     def next(self, word):
         """The words of the next line behind its first, which is given."""
@@ -75,15 +80,16 @@ class Lines:
 class Report:
     """A report, with the line of each part."""
 
-    def __init__(self, data):
-        lines, self.line = Lines(data), {}
+    def __init__(self, lines):
+        self.line = {}
         if lines.next("equilibrium") != ["1"]:
             raise lines.fault()
+        self.first = lines.at
         self.t = lines.numbers("temperature", 1, 100, 600000)[0]
         self.n = lines.numbers("lattice", 1)[0]
         if self.n not in LATTICES:
             raise lines.fault()
-        self.elements, self.phases = lines.names("elements", 8), lines.names("phases", len(data))
+        self.elements, self.phases = lines.names("elements", 8), lines.names("phases", 2**28)
         count = len(self.elements)
         self.asked = lines.numbers("asked", count, 0, 2**50)
         self.entries = [self.entry(lines) for _ in range(lines.numbers("entries", 1, 0, 32)[0])]
@@ -99,9 +105,6 @@ class Report:
             self.line[name] = lines.at
         self.trees = [self.tree(lines, name) for name in self.phases]
         if lines.next("end"):
-            raise lines.fault()
-        lines.at += 1
-        if lines.lines[lines.at - 1 :] != [""]:
             raise lines.fault()
 
     def entry(self, lines):
@@ -122,6 +125,47 @@ class Report:
             nodes.append(lines.node())
             open_parts += 1 if nodes[-1][1] == "S" else -1
         return nodes
+
+
+class Step:
+    """A step of a path."""
+
+    def __init__(self, lines):
+        self.number = lines.numbers("step", 1, 1, 10000)[0]
+        self.line, self.report = lines.at, Report(lines)
+        self.left = lines.numbers("left", len(self.report.elements))
+        self.left_line = lines.at
+
+
+class Path:
+    """A path, with the line of each part."""
+
+    def __init__(self, lines):
+        if lines.next("path") != ["1"]:
+            raise lines.fault()
+        self.liquid = lines.names("liquid", 1)[0]
+        self.descent = lines.numbers("descent", 1, 1, 600000)[0]
+        self.floor = lines.numbers("floor", 1, 100, 600000)[0]
+        self.stop = lines.numbers("stop", 1, 0, 1000000)[0]
+        self.steps = [Step(lines)]
+        while len(self.steps) < 10000 and lines.peek() == "step":
+            self.steps.append(Step(lines))
+        words = lines.next("finish")
+        if len(words) != 1 or words[0] not in ("no-liquid", "fraction", "temperature"):
+            raise lines.fault()
+        self.finish, self.finish_line = words[0], lines.at
+        count = len(self.steps[0].report.elements)
+        self.solids, self.remains, self.lost = (lines.numbers(word, count) for word in ("solids", "remains", "lost"))
+
+
+def document(data):
+    """A report or a path, by the first line."""
+    lines = Lines(data)
+    found = (Path if lines.peek() == "path" else Report)(lines)
+    lines.at += 1
+    if lines.lines[lines.at - 1 :] != [""]:
+        raise lines.fault()
+    return found
 
 
 # ---- the rules
@@ -195,21 +239,29 @@ def is_constitution(phase, counts):
     return any(k and c is not None for row, sites in zip(counts, phase.sites) for k, c in zip(row, sites))
 
 
-def judge(system, report):
-    """Every rule, in the order of the lines."""
+def nothing(rule):
+    """What no path asks of a report that stands alone."""
+
+
+def judge(system, report, path_rule=nothing):
+    """Every rule, in the order of the lines; at each line of the head a path may ask more."""
+    path_rule("temperature")
+    path_rule("lattice")
     if report.elements != system.elements:
-        raise broken(4, "system")
+        raise broken(report.first + 3, "system")
+    path_rule("elements")
     if report.phases != [phase.name for phase in system.phases]:
-        raise broken(5, "system")
+        raise broken(report.first + 4, "system")
+    path_rule("phases")
+    path_rule("asked")
     last = None
     for line, place, _, counts in report.entries:
         key = (place, [k for row in counts for k in row])
         if not is_constitution(system.phases[place], counts) or (last is not None and key <= last):
             raise broken(line, "entry")
         last = key
-    amounts = [(system.phases[place], amount, counts) for _, place, amount, counts in report.entries]
-    totals = [sum(n * phase.content(counts, c) for phase, n, counts in amounts) for c in range(len(system.elements))]
-    energy = sum(n * phase.energy(counts) for phase, n, counts in amounts)
+    totals = totals_of(system, report.entries)
+    energy = sum(n * system.phases[place].energy(counts) for _, place, n, counts in report.entries)
     worth = sum(m * b for m, b in zip(report.potentials, report.total))
     for rule, well in (
         ("total", report.total == totals),
@@ -224,6 +276,74 @@ def judge(system, report):
         judge_tree(phase, report.potentials, nodes)
 
 
+def totals_of(system, entries):
+    """The content of the entries, of each element."""
+    return [sum(n * system.phases[place].content(counts, c) for _, place, n, counts in entries) for c in range(len(system.elements))]
+
+
+def finish_of(path, step):
+    """The first of the three ends that holds behind a step, or None."""
+    if not any(step.left):
+        return "no-liquid"
+    if sum(step.left) * 10**6 <= path.stop * sum(path.steps[0].report.asked):
+        return "fraction"
+    return "temperature" if step.report.t - path.descent < path.floor else None
+
+
+def head_rule(path, step, before):
+    """What a path asks of the head of a step's report, line by line."""
+    first, report = path.steps[0].report, step.report
+    wanted = {
+        "temperature": (1, before is None or report.t == before.report.t - path.descent),
+        "lattice": (2, report.n == first.n),
+        "elements": (3, report.elements == first.elements),
+        "phases": (4, report.phases == first.phases),
+        "asked": (5, before is None or report.asked == before.left),
+    }
+
+    def rule(name):
+        line, well = wanted[name]
+        if not well:
+            raise broken(report.first + line, "path")
+
+    return rule
+
+
+def judge_path(db, path):
+    """The rules of the path and of its reports, the first line first."""
+    if path.liquid not in path.steps[0].report.phases:
+        raise broken(2, "path")
+    count, before = len(path.steps[0].report.elements), None
+    solids, lost = [0] * count, [0] * count
+    for place, step in enumerate(path.steps):
+        if step.number != place + 1 or (before is not None and finish_of(path, before) is not None):
+            raise broken(step.line, "path")
+        report = step.report
+        system = System(db, report.t, report.n, report.elements, report.phases)
+        judge(system, report, head_rule(path, step, before))
+        liquid = report.phases.index(path.liquid)
+        if step.left != totals_of(system, [entry for entry in report.entries if entry[1] == liquid]):
+            raise broken(step.left_line, "path")
+        solid = totals_of(system, [entry for entry in report.entries if entry[1] != liquid])
+        solids = [a + b for a, b in zip(solids, solid)]
+        lost = [a + b - c for a, b, c in zip(lost, report.asked, report.total)]
+        before = step
+    for line, well in enumerate(
+        (path.finish == finish_of(path, before), path.solids == solids, path.remains == before.left, path.lost == lost)
+    ):
+        if not well:
+            raise broken(path.finish_line + line, "path")
+
+
+def judge_document(db, found):
+    """How many equilibria were accepted."""
+    if isinstance(found, Path):
+        judge_path(db, found)
+        return len(found.steps)
+    judge(System(db, found.t, found.n, found.elements, found.phases), found)
+    return 1
+
+
 def main(words):
     sys.setrecursionlimit(10**6)
     try:
@@ -236,12 +356,11 @@ def main(words):
         if len(texts[0]) > 2**24 or len(texts[1]) > 2**28:
             raise Refused(8, "refused long")
         db = Database(texts[0].decode("latin-1"))
-        report = Report(texts[1])
-        judge(System(db, report.t, report.n, report.elements, report.phases), report)
+        count = judge_document(db, document(texts[1]))
     except Refused as refusal:
         print(refusal)
         return refusal.status
-    print("accepted 1")
+    print(f"accepted {count}")
     return 0
 
 

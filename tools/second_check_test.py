@@ -162,9 +162,14 @@ class SecondCheck(unittest.TestCase):
                 self.assertEqual(answer(with_lines(ONE_ELEMENT, changes), ONE_REPORT), wanted)
 
     def test_the_rows_of_the_program_have_the_same_refusals(self):
-        for shown, text, words, wanted in rows():
+        for shown, text, words, wanted in equilibria():
             with self.subTest(shown):
                 self.assertEqual(refusal(text, words), wanted)
+
+    def test_the_documents_of_the_program_are_judged_alike(self):
+        for shown, database, report, wanted in documents():
+            with self.subTest(shown):
+                self.assertEqual(answer(database, report), wanted)
 
 
 # ---- the rows of crates/run_tables: a name, a text with lines that stand in place of its own, words, what the program printed
@@ -178,29 +183,47 @@ def own(*path):
 def texts():
     source = own("src", "texts.rt")
     lists = {}
-    for name, body in re.findall(r"const (\w+): \[&\[u8\]; \d+\] = \[(.*?)\n\];", source, re.S):
+    for name, body in re.findall(r"static (\w+): \[&\[u8\]; \d+\] = \[(.*?)\n\];", source, re.S):
         lists[name] = re.findall(r'b"((?:[^"\\]|\\.)*)"', body)
-    named = re.findall(r'name == "(\w+)" \{\s*for line in (\w+)', source)
+    named = re.findall(r'"(\w+)" => (\w+)\.', source)
     return {"": [], **{name: lists[of] for name, of in named}}
 
 
+def text_of(known, named):
+    """The text of a name, with lines in place of its own, at its end, or taken out."""
+    base, *changes = named.split("|")
+    lines = list(known[base])
+    for change in changes:
+        place, mark, text = int(change[:2]) if change[:2].isdigit() else 0, change[2:3], change[3:]
+        if not 0 < place <= len(lines):
+            lines.append(text)
+        else:
+            lines[place - 1 : place] = [] if mark == "-" else [text]
+    return "".join(line.replace("^", "\n") + "\n" for line in lines)
+
+
 def rows():
-    """Of each row whose words are read: its name, the database, the options, and the refusal of the database or the system, or None."""
+    """Of each row: its name, the database, the words, the text of the second file, if any, and what the program printed."""
     known = texts()
     for row, printed in zip(own("stdin").splitlines(), own("stdout").splitlines()):
-        shown, named, words = row.split("~")[:3]
-        base, *changes = named.split("|")
-        lines = list(known[base])
-        for change in changes:
-            place, text = int(change[:2]) if change[:2].isdigit() else 0, change[3:]
-            lines[place - 1 : place] = [text] if 0 < place <= len(lines) else []
-            lines += [] if 0 < place <= len(lines) else [text]
-        answer_is = printed[len(shown) + 2 :]
-        if answer_is[:1] in "023" or answer_is[:1] == "4":
-            refused = re.match(r"[23] (refused (?!system infeasible).*)/", answer_is)
+        shown, named, words, *more = row.split("~")
+        yield shown, text_of(known, named), words, text_of(known, more[1]) if len(more) > 1 else None, printed[len(shown) + 2 :]
+
+
+def equilibria():
+    """Of each row whose words are read: its name, the database, the options, and the refusal of the database or the system, or None."""
+    for shown, text, words, _, printed in rows():
+        if words.startswith("equilibrium ") and printed[:1] in "0234":
+            refused = re.match(r"[23] (refused (?!system infeasible).*)/", printed)
             pairs = words.split(" ")[1:]
-            text = "".join(line.replace("^", "\n") + "\n" for line in lines)
             yield shown, text, dict(zip(pairs[::2], pairs[1::2])), refused and refused.group(1)
+
+
+def documents():
+    """Of each row that checks a second file: its name, the database, the file, and the answer."""
+    for shown, database, words, report, printed in rows():
+        if words == "check --db DB --report R":
+            yield shown, database, report, printed[2:].rstrip("/")
 
 
 def refusal(text, options):

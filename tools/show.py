@@ -1,8 +1,9 @@
 #!/usr/bin/env python3
-"""A report for reading: kelvins, mole fractions, J/mol. It is no part of what is proved and checks nothing.
+"""A report or a path for reading: kelvins, mole fractions, J/mol. It is no part of what is proved and checks nothing.
 
-    tools/show.py DATABASE REPORT            a page
-    tools/show.py DATABASE REPORT --row      one record: temperature, then the share of each phase
+    tools/show.py DATABASE REPORT            a page, and of a path one for each step
+    tools/show.py DATABASE REPORT --row      a record: temperature, then the share of each phase
+    tools/show.py DATABASE PATH --row        a record for each step: temperature, the fraction of solid, then the share of each phase
 
 The database is read for the ratios of the phases, which a report does not hold.
 """
@@ -10,7 +11,7 @@ The database is read for the ratios of the phases, which a report does not hold.
 import sys
 
 from database import Database, Refused, System
-from second_check import Report
+from second_check import Path, document
 
 
 def plain(value, unit, places=6):
@@ -19,12 +20,11 @@ def plain(value, unit, places=6):
 
 
 class View:
-    def __init__(self, database, report):
-        with open(database, "rb") as file:
-            db = Database(file.read().decode("latin-1"))
-        with open(report, "rb") as file:
-            self.report = Report(file.read())
-        self.system = System(db, self.report.t, self.report.n, self.report.elements, self.report.phases)
+    """An equilibrium and its phases."""
+
+    def __init__(self, db, report):
+        self.report = report
+        self.system = System(db, report.t, report.n, report.elements, report.phases)
 
     def moles(self, entry):
         """Of each element, in mol, what an entry holds."""
@@ -60,17 +60,50 @@ class View:
             unit = report.n * 10**9
             yield f"{name:12} {plain(asked, unit, 9):>14} {plain(held, unit, 9):>14} {m * report.n / 65536 / 10**6:24.3f}"
 
-    def row(self):
-        return ",".join([plain(self.report.t, 100, 2)] + [f"{share:.6f}" for share in self.shares()])
+    def row(self, *more):
+        return ",".join([plain(self.report.t, 100, 2), *more] + [f"{share:.6f}" for share in self.shares()])
+
+
+def solid_fraction(path, step):
+    """The share of what was asked first that is no longer liquid behind a step."""
+    return 1 - sum(step.left) / sum(path.steps[0].report.asked)
+
+
+def path_rows(db, path):
+    yield ",".join(["temperature", "solid", *path.steps[0].report.phases])
+    for step in path.steps:
+        yield View(db, step.report).row(f"{solid_fraction(path, step):.6f}")
+
+
+def path_pages(db, path):
+    for step in path.steps:
+        yield f"step {step.number}, {100 * solid_fraction(path, step):.4f} % solid behind it"
+        yield from View(db, step.report).page()
+        yield ""
+    first = path.steps[0].report
+    yield f"finish: {path.finish}"
+    yield f"{'element':12} {'solid, mol':>14} {'remains, mol':>14} {'lost, mol':>14}"
+    for name, *numbers in zip(first.elements, path.solids, path.remains, path.lost):
+        yield f"{name:12} " + " ".join(f"{plain(number, first.n * 10**9, 9):>14}" for number in numbers)
+
+
+def shown(db, found, as_rows):
+    if isinstance(found, Path):
+        return path_rows(db, found) if as_rows else path_pages(db, found)
+    view = View(db, found)
+    return [view.row()] if as_rows else view.page()
 
 
 def main(words):
     try:
-        view = View(words[0], words[1])
+        with open(words[0], "rb") as file:
+            db = Database(file.read().decode("latin-1"))
+        with open(words[1], "rb") as file:
+            found = document(file.read())
+        print("\n".join(shown(db, found, words[2:] == ["--row"])))
     except Refused as refusal:
         print(refusal, file=sys.stderr)
         return refusal.status
-    print("\n".join([view.row()] if words[2:] == ["--row"] else view.page()))
     return 0
 
 

@@ -7,7 +7,7 @@ use Rattle.cal_scan.specs.Numbers.{digits_value}
 use Rattle.cal_scan.proofs.Values.{capped_through, one_below}
 use Rattle.cal_job.specs.declared.number.TheConstants.{CAP}
 use Rattle.cal_job.specs.Capped.{capped}
-use Rattle.cal_job.specs.declared.option.NumberForm.{NumberForm}
+use Rattle.cal_job.specs.declared.form.NumberForm.{NumberForm}
 use Rattle.cal_job.specs.Forms.{in_units, is_between, within}
 
 -- a power of ten of at most nine zeros, and a capped value times it

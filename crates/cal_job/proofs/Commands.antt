@@ -1,80 +1,136 @@
--- The words of a command have one reading.
-use Rattle.std.proofs.Common.{◌≡◌, ℕ, ◌*◌, ◌%◌, List, [], ◌∷◌, map, length, codes, true, false, Option, Some, None, refl, sym, ap, subst, ◌∙◌, arith}
-use Rattle.std.specs.List.{list_all}
-use Rattle.std.proofs.lemmas.List.{length-map}
-use Rattle.std.specs.Cmp.Lexicographic.{same_text, other_text}
-use Rattle.cal_scan.specs.Words.{same_word}
-use Rattle.cal_job.specs.declared.request.Request.{Request}
-use Rattle.cal_job.proofs.Items.{some_one, front_list}
+-- What words say, by the texts that they give, and that they say one order at most.
+use Rattle.std.proofs.Common.{◌≡◌, ℕ, List, [], ◌∷◌, map, true, false, Option, Some, sym, ap, subst, ◌∙◌}
+use Rattle.std.specs.Prelude.{◌↔◌, slice_get}
+use Rattle.std.specs.Option.{option_map, option_map_or}
+use Rattle.cal_args.specs.Plain.{IsSpelledBy, value_of}
+use Rattle.cal_args.specs.Held.{held_value, is_taken}
+use Rattle.cal_args.specs.Program.{choices_of, command_at, word_of}
+use Rattle.cal_args.specs.Reading.{GivesEquilibrium, GivesScheil, Holds, is_read, command_of as command_of_texts}
+use Rattle.cal_args.specs.declared.command.Command.{Command}
+use Rattle.cal_args.specs.declared.texts.CommandTexts.{CommandTexts}
+use Rattle.cal_args.specs.declared.texts.CommandTexts.TheVariants as texts
+use Rattle.cal_args.specs.declared.texts.EquilibriumTexts.{EquilibriumTexts}
+use Rattle.cal_args.specs.declared.texts.ScheilTexts.{ScheilTexts}
+use Rattle.cal_args.proofs.Choosing.{at_its_word, same_command, names_of}
+use Rattle.cal_args.proofs.PlainWords.{plain_taken, plain_values}
 use Rattle.cef_core.specs.declared.job.Job.{Job}
-use Rattle.cal_job.specs.Saying.{Word, is_plain, spelling, GivesAmounts, one_or_none, Asks, Says, SameRequest}
+use Rattle.cal_job.specs.declared.form.TheConstants.{TEMPERATURE_FORM, STEP_FORM, STOP_FORM, LATTICE_FORM, GAP_FORM, BUDGET_FORM}
+use Rattle.cal_job.specs.declared.order.Order.{Order}
+use Rattle.cal_job.specs.declared.order.Order.TheVariants as order
+use Rattle.cal_job.specs.declared.request.Request.{Request}
+use Rattle.cal_job.specs.declared.request.PathRequest.{PathRequest}
+use Rattle.cal_job.specs.Forms.{upper, listed_in}
+use Rattle.cal_job.specs.Requests.{IsOrder}
+use Rattle.cal_job.specs.Saying.{Word, Values, number_at, GivesAmounts, AsksRequest, AsksPath, Asks, command_of, NamesCommand, Says, SameRequest, SamePath, SameOrder}
+use Rattle.cal_job.specs.Texts.{TextsAskRequest, TextsAskPath, TextsAsk}
+use Rattle.cal_job.proofs.Items.{one_some, some_one}
 
-pair_one : (p q : Word × Word) → p.0 ≡ q.0 → p.1 ≡ q.1 → p ≡ q
-pair_one (a, b) (c, d) first second = cc
+-- ---- texts are the values of their options
 
--- words are the spelling of no other pairs
-spelling_one : (ps qs : List (Word × Word)) → spelling ps ≡ spelling qs → ps ≡ qs
-unfolding spelling
-spelling_one [] [] e = refl
-spelling_one [] (q ∷ qs) e = absurd (cc)
-spelling_one (p ∷ ps) [] e = absurd (cc)
-spelling_one (p ∷ ps) (q ∷ qs) e =
-    let first : p.0 ≡ q.0 = cc in
-    let second : p.1 ≡ q.1 = cc in
-    let rest : spelling ps ≡ spelling qs = cc in
-    let same : p ≡ q = pair_one p q first second in
-    let behind : ps ≡ qs = spelling_one ps qs rest in
-    cc
+values_ask : (values : Values) (texts : EquilibriumTexts) (request : Request) → GivesEquilibrium values texts → TextsAskRequest texts request → AsksRequest values request
+values_ask values texts request gives ask = record {
+  database = gives.db ∙ ap Some ask.database;
+  t = ap (number_at TEMPERATURE_FORM) gives.t ∙ ask.t;
+  amounts = subst (λ (value : Option Word). GivesAmounts value request.job.elements request.amounts) (sym gives.amounts) ask.amounts;
+  lattice = ap (number_at LATTICE_FORM) gives.lattice ∙ ask.lattice;
+  gap = ap (number_at GAP_FORM) gives.gap ∙ ask.gap;
+  budget = ap (number_at BUDGET_FORM) gives.budget ∙ ask.budget;
+  phases = ap (option_map listed_in) gives.phases ∙ ask.phases;
+  range = ask.range;
+}
 
-spelling_even : (ps : List (Word × Word)) → length (spelling ps) ≡ 2 * length ps
-unfolding spelling
-spelling_even [] = refl
-spelling_even (p ∷ ps) = omega (arith, spelling_even ps)
+texts_ask : (values : Values) (texts : EquilibriumTexts) (request : Request) → GivesEquilibrium values texts → AsksRequest values request → TextsAskRequest texts request
+texts_ask values texts request gives asks = record {
+  database = one_some _ _ (sym gives.db ∙ asks.database);
+  t = sym (ap (number_at TEMPERATURE_FORM) gives.t) ∙ asks.t;
+  amounts = subst (λ (value : Option Word). GivesAmounts value request.job.elements request.amounts) gives.amounts asks.amounts;
+  lattice = sym (ap (number_at LATTICE_FORM) gives.lattice) ∙ asks.lattice;
+  gap = sym (ap (number_at GAP_FORM) gives.gap) ∙ asks.gap;
+  budget = sym (ap (number_at BUDGET_FORM) gives.budget) ∙ asks.budget;
+  phases = sym (ap (option_map listed_in) gives.phases) ∙ asks.phases;
+  range = asks.range;
+}
 
-behind_word : (word other : Word) (xs ys : List Word) → word ∷ xs ≡ other ∷ ys → xs ≡ ys
-behind_word word other xs ys e = cc
+path_values : (values : Values) (texts : ScheilTexts) (path : PathRequest) → GivesScheil values texts → TextsAskPath texts path → AsksPath values path
+path_values values texts path gives ask = record {
+  request = values_ask values texts.first path.request gives.first ask.request;
+  descent = ap (number_at STEP_FORM) gives.step ∙ ask.descent;
+  floor = ap (number_at TEMPERATURE_FORM) gives.end ∙ ask.floor;
+  stop = ap (number_at STOP_FORM) gives.stop ∙ ask.stop;
+  liquid = ap (option_map upper) gives.liquid ∙ ap Some ask.liquid;
+  range = ask.range;
+}
 
-front_word : (word other : Word) (xs ys : List Word) → word ∷ xs ≡ other ∷ ys → word ≡ other
-front_word word other xs ys e = cc
+path_texts : (values : Values) (texts : ScheilTexts) (path : PathRequest) → GivesScheil values texts → AsksPath values path → TextsAskPath texts path
+path_texts values texts path gives asks = record {
+  request = texts_ask values texts.first path.request gives.first asks.request;
+  descent = sym (ap (number_at STEP_FORM) gives.step) ∙ asks.descent;
+  floor = sym (ap (number_at TEMPERATURE_FORM) gives.end) ∙ asks.floor;
+  stop = sym (ap (number_at STOP_FORM) gives.stop) ∙ asks.stop;
+  liquid = one_some _ _ (sym (ap (option_map upper) gives.liquid) ∙ asks.liquid);
+  range = asks.range;
+}
 
-pub record Reads (ps : List (Word × Word)) (request : Request) : Type 0 where
-  pub plain : list_all is_plain ps ≡ true
-  pub asked : Asks ps request
+-- ---- the command that words name
 
--- what the words say is what their pairs ask for
-pub says_reads : (words : List Word) (ps : List (Word × Word)) (request : Request) → words ≡ spelling ps → Says (codes "equilibrium" ∷ words) request → Reads ps request
-says_reads words ps request is says =
-    let same : says.pairs ≡ ps = spelling_one says.pairs ps (sym (behind_word _ _ _ _ says.spelled) ∙ is) in
-    let read : Reads says.pairs request = record { plain = says.plain; asked = says.asked } in
-    subst (λ (qs : List (Word × Word)). Reads qs request) same read
+abbrev pub held : List Word → Command → Values
+held words command = held_value (word_of command) (choices_of command) words
 
--- an odd number of words says nothing
-pub odd_says : {X : Type 0} (f : X → Word) (words : List X) (request : Request) → (length words % 2 ≡ 0 → ⊥) → Says (codes "equilibrium" ∷ map f words) request → ⊥
-odd_says f words request odd says =
-    let same : map f words ≡ spelling says.pairs = behind_word _ _ _ _ says.spelled in
-    let long : length words ≡ 2 * length says.pairs = sym (length-map words f) ∙ ap length same ∙ spelling_even says.pairs in
-    odd (omega (arith, long))
+one_command : (words : List Word) (c d : Command) → slice_get words 0 ≡ Some (word_of c) → slice_get words 0 ≡ Some (word_of d) → c ≡ d
+one_command words c d e f = same_command c d (one_some _ _ (sym e ∙ f))
 
-pub other_command : (words rest : List Word) (word : Word) (request : Request) → words ≡ word ∷ rest → false ≡ same_word word (codes "equilibrium") → Says words request → ⊥
-unfolding same_word
-other_command words rest word request is other says = other_text word (codes "equilibrium") other (front_word word _ rest _ (sym is ∙ says.spelled))
+pub named_read : (words : List Word) (command : Command) → NamesCommand words command → is_read words ≡ true
+named_read [] command names = absurd cc
+named_read (word ∷ words) command names =
+    let is : word ≡ word_of command = one_some _ _ names.named in
+    ap (λ (o : Option Command). option_map_or (λ c. is_taken (word_of c) (choices_of c) (word ∷ words)) o false) (ap command_at is ∙ at_its_word command) ∙ names.taken
 
-pub command_is : (words rest : List Word) (word : Word) → words ≡ word ∷ rest → true ≡ same_word word (codes "equilibrium") → words ≡ codes "equilibrium" ∷ rest
-unfolding same_word
-command_is words rest word is same = is ∙ ap (λ (w : Word). w ∷ rest) (same_text word (codes "equilibrium") same)
+-- ---- what texts ask for is what the words say
 
-value_one : {A : Type 0} (vs : List (Option A)) (x y : A) → vs ≡ Some x ∷ [] → vs ≡ Some y ∷ [] → x ≡ y
-value_one vs x y is other = let same : Some x ∷ [] ≡ Some y ∷ [] = sym is ∙ other in cc
+pub says_from : (words : List Word) (asked : CommandTexts) (order : Order) → Holds words asked → TextsAsk asked order → Says words order
+says_from words (texts.Equilibrium asked) (order.Equilibrium request) holds ask = record {
+  names = record { named = holds.command; taken = holds.taken };
+  asked = values_ask _ asked request holds.values ask;
+}
+says_from words (texts.Scheil asked) (order.Scheil path) holds ask = record {
+  names = record { named = holds.command; taken = holds.taken };
+  asked = path_values _ asked path holds.values ask;
+}
+says_from words (texts.Check asked) (order.Check check) holds ask = record {
+  names = record { named = holds.command; taken = holds.taken };
+  asked = record { database = holds.values.db ∙ ap Some ask.database; report = holds.values.report ∙ ap Some ask.report };
+}
+says_from words (texts.Table asked) (order.Table table) holds ask = record {
+  names = record { named = holds.command; taken = holds.taken };
+  asked = record { report = holds.values.report ∙ ap Some ask.report };
+}
+says_from words _ _ holds ask = absurd ask
 
-items_one : (values : List Word) (elements others : List Word) (amounts numbers : List ℕ) (one : GivesAmounts values elements amounts) (two : GivesAmounts values others numbers) → one.items ≡ two.items
-items_one values elements others amounts numbers one two =
-    some_one one.items two.items (front_list _ _ [] [] (sym one.written ∙ two.written))
+texts_from : (words : List Word) (asked : CommandTexts) (order : Order) → command_of_texts asked ≡ command_of order → Holds words asked → Says words order → TextsAsk asked order
+texts_from words (texts.Equilibrium asked) (order.Equilibrium request) one holds says = texts_ask _ asked request holds.values says.asked
+texts_from words (texts.Scheil asked) (order.Scheil path) one holds says = path_texts _ asked path holds.values says.asked
+texts_from words (texts.Check asked) (order.Check check) one holds says =
+    record { database = one_some _ _ (sym holds.values.db ∙ says.asked.database); report = one_some _ _ (sym holds.values.report ∙ says.asked.report) }
+texts_from words (texts.Table asked) (order.Table table) one holds says = record { report = one_some _ _ (sym holds.values.report ∙ says.asked.report) }
+texts_from words _ _ one holds says = absurd cc
 
-list_one : (p q : Option (List Word)) → one_or_none p ≡ one_or_none q → p ≡ q
-list_one None None e = refl
-list_one None (Some ys) e = absurd cc
-list_one (Some xs) None e = absurd cc
-list_one (Some xs) (Some ys) e = cc
+pub says_texts : (words : List Word) (asked : CommandTexts) (order : Order) → Holds words asked → Says words order → TextsAsk asked order
+says_texts words asked order holds says =
+    texts_from words asked order (one_command words _ _ holds.command says.names.named) holds says
+
+pub keeps : (words : List Word) (order : Order) → Says words order → IsOrder order
+keeps words (order.Equilibrium request) says = says.asked.range
+keeps words (order.Scheil path) says = says.asked.range
+keeps words (order.Check check) says = tt
+keeps words (order.Table table) says = tt
+
+-- ---- one order at most
+
+value_one : {A : Type 0} (o : Option A) (x y : A) → o ≡ Some x → o ≡ Some y → x ≡ y
+value_one o x y is other = one_some x y (sym is ∙ other)
+
+items_one : (value : Option Word) (elements others : List Word) (amounts numbers : List ℕ) (one : GivesAmounts value elements amounts) (two : GivesAmounts value others numbers) → one.items ≡ two.items
+items_one value elements others amounts numbers one two = some_one one.items two.items (value_one _ _ _ one.written two.written)
 
 job_one : (job other : Job) → job.t ≡ other.t → job.lattice ≡ other.lattice → job.elements ≡ other.elements → job.phases ≡ other.phases → job ≡ other
 job_one job other t lattice elements phases =
@@ -82,20 +138,53 @@ job_one job other t lattice elements phases =
     let same : made job.t job.lattice job.elements job.phases ≡ made other.t other.lattice other.elements other.phases = cc in
     same
 
-asks_one : (ps : List (Word × Word)) (request other : Request) → Asks ps request → Asks ps other → SameRequest request other
-asks_one ps request other is o =
+request_one : (values : Values) (request other : Request) → AsksRequest values request → AsksRequest values other → SameRequest request other
+request_one values request other is o =
     let items : is.amounts.items ≡ o.amounts.items = items_one _ _ _ _ _ is.amounts o.amounts in
     record {
-      database = front_word _ _ [] [] (sym is.database ∙ o.database);
+      database = value_one _ _ _ is.database o.database;
       job = job_one request.job other.job (value_one _ _ _ is.t o.t) (value_one _ _ _ is.lattice o.lattice)
-          (is.amounts.elements_are ∙ ap (map (λ item. item.0)) items ∙ sym o.amounts.elements_are) (list_one _ _ (sym is.phases ∙ o.phases));
+          (is.amounts.elements_are ∙ ap (map (λ item. item.0)) items ∙ sym o.amounts.elements_are) (sym is.phases ∙ o.phases);
       amounts = is.amounts.amounts_are ∙ ap (map (λ item. item.1)) items ∙ sym o.amounts.amounts_are;
       gap = value_one _ _ _ is.gap o.gap;
       budget = value_one _ _ _ is.budget o.budget;
     }
 
--- the words say one request at most
-pub Says_one : (words : List Word) (request other : Request) → Says words request → Says words other → SameRequest request other
-Says_one words request other is o =
-    let same : o.pairs ≡ is.pairs = spelling_one o.pairs is.pairs (behind_word _ _ _ _ (sym o.spelled ∙ is.spelled)) in
-    asks_one is.pairs request other is.asked (subst (λ (ps : List (Word × Word)). Asks ps other) same o.asked)
+path_one : (values : Values) (path other : PathRequest) → AsksPath values path → AsksPath values other → SamePath path other
+path_one values path other is o = record {
+  request = request_one values path.request other.request is.request o.request;
+  descent = value_one _ _ _ is.descent o.descent;
+  floor = value_one _ _ _ is.floor o.floor;
+  stop = value_one _ _ _ is.stop o.stop;
+  liquid = value_one _ _ _ is.liquid o.liquid;
+}
+
+asks_one : (words : List Word) (one other : Order) → command_of one ≡ command_of other → Asks (held words (command_of one)) one → Asks (held words (command_of other)) other → SameOrder one other
+asks_one words (order.Equilibrium request) (order.Equilibrium other) same is o = request_one _ request other is o
+asks_one words (order.Scheil path) (order.Scheil other) same is o = path_one _ path other is o
+asks_one words (order.Check check) (order.Check other) same is o =
+    record { database = value_one _ _ _ is.database o.database; report = value_one _ _ _ is.report o.report }
+asks_one words (order.Table table) (order.Table other) same is o = record { report = value_one _ _ _ is.report o.report }
+asks_one words _ _ same is o = absurd cc
+
+-- the words say one order at most
+pub Says_one : (words : List Word) (one other : Order) → Says words one → Says words other → SameOrder one other
+Says_one words one other is o = asks_one words one other (one_command words _ _ is.names.named o.names.named) is.asked o.asked
+
+-- ---- plain words
+
+pub plain_says : (command : Command) (words : List Word) (pairs : List (Word × Word)) → IsSpelledBy (word_of command) (choices_of command) words pairs
+    → (order : Order) → Says words order ↔ ((command_of order ≡ command) × Asks (λ option. value_of option pairs) order)
+plain_says command words pairs spelled order =
+    let first : slice_get words 0 ≡ Some (word_of command) = ap (λ (ws : List Word). slice_get ws 0) spelled.spelled in
+    let same : held words command ≡ (λ option. value_of option pairs) =
+    λ i option. plain_values (word_of command) (choices_of command) words pairs option (names_of command) spelled i in
+    let named : NamesCommand words command = record { named = first; taken = plain_taken (word_of command) (choices_of command) words pairs (names_of command) spelled } in (
+      (λ says.
+          let own : command_of order ≡ command = one_command words _ _ says.names.named first in
+          (own, subst (λ (values : Values). Asks values order) (ap (held words) own ∙ same) says.asked)),
+      (λ asks. record {
+        names = subst (λ (c : Command). NamesCommand words c) (sym asks.0) named;
+        asked = subst (λ (values : Values). Asks values order) (sym (ap (held words) asks.0 ∙ same)) asks.1;
+      }),
+    )

@@ -60,17 +60,17 @@ some_one (x ∷ xs) (y ∷ ys) e =
     let rest : xs ≡ ys = some_one xs ys cc in
     cc
 
-pub front_list : {A : Type 0} (xs ys : List A) (vs ws : List (List A)) → xs ∷ vs ≡ ys ∷ ws → xs ≡ ys
-front_list xs ys vs ws e = cc
+pub one_some : {A : Type 0} (x y : A) → Some x ≡ Some y → x ≡ y
+one_some x y e = cc
 
 pub total_of : (items : List (Word × ℕ)) → length items ≤ MOST_ELEMENTS → All (λ item. IsBetween 1 MOST_NANOMOLES item.1) items → sum (map (λ item. item.1) items) < 2 ^ 64
 total_of items few each = total_fits (map (λ item. item.1) items) (omega (arith, length-map items (λ (item : Word × ℕ). item.1), few)) (each_amount items each)
 
 -- what the items give is no composition, so the text gives none
 pub no_composition : (text : Word) (items : List (Word × ℕ)) (elements : List Word) (amounts : List ℕ) → items_of text ≡ map (λ item. Some item) items
-    → ¬ AreAmounts (map (λ item. item.0) items) (map (λ item. item.1) items) → AreAmounts elements amounts → GivesAmounts (text ∷ []) elements amounts → ⊥
+    → ¬ AreAmounts (map (λ item. item.0) items) (map (λ item. item.1) items) → AreAmounts elements amounts → GivesAmounts (Some text) elements amounts → ⊥
 no_composition text items elements amounts said bad are gives =
-    let same : gives.items ≡ items = some_one gives.items items (sym (front_list _ _ [] [] gives.written) ∙ said) in
+    let same : gives.items ≡ items = some_one gives.items items (sym (one_some _ _ gives.written) ∙ said) in
     let first : elements ≡ map (λ item. item.0) items = gives.elements_are ∙ ap (map (λ item. item.0)) same in
     let second : amounts ≡ map (λ item. item.1) items = gives.amounts_are ∙ ap (map (λ item. item.1)) same in
     bad (subst (λ (es : List Word). AreAmounts es (map (λ item. item.1) items)) first (subst (λ (ns : List ℕ). AreAmounts elements ns) second are))

@@ -1,10 +1,11 @@
 -- Names between commas.
-use Rattle.std.proofs.Common.{◌≡◌, ◌≤◌, List, [], ◌∷◌, map, length, true, refl, ap, arith}
 use Rattle.std.specs.Prelude.{◌==◌}
+use Rattle.std.proofs.Common.{◌≡◌, ◌≤◌, List, [], ◌∷◌, map, length, true, refl, ap, arith}
 use Rattle.std.specs.List.{AllByRecursion, list_all, slice_split}
 use Rattle.std.proofs.lemmas.Bool.{and_parts}
 use Rattle.std.proofs.lemmas.List.{length-map}
 use Rattle.std.proofs.lemmas.List.Splits.{length-slice_split}
+use Rattle.cal_scan.specs.Cuts.{parts_at}
 use Rattle.cal_scan.specs.Words.{is_name}
 use Rattle.cal_scan.specs.declared.byte.TheConstants.{COMMA}
 use Rattle.cal_job.specs.Forms.{upper, listed_in}
@@ -24,5 +25,6 @@ names_all (w ∷ ws) all = rw (all.0, names_all ws all.1) refl
 
 -- there is a part before each comma and behind the last
 pub some_listed : (text : Word) → 1 ≤ length (listed_in text)
+unfolding parts_at
 some_listed text =
     omega (arith, length-map (slice_split (λ b. b == COMMA) text) upper, length-slice_split (λ b. b == COMMA) text)

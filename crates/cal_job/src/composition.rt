@@ -1,19 +1,19 @@
 //! The elements and their amounts.
 
-ghost use Rattle.std.specs.Prelude.{◌≡◌, ◌≤◌, ◌<◌, ◌∷◌, ◌^◌, ℕ, List, [], IfOk, Err, All, Some, None, map, sum};
+ghost use Rattle.std.specs.Prelude.{◌≡◌, ◌≤◌, ◌<◌, ◌^◌, ℕ, List, IfOk, Err, All, Some, None, map, sum};
 ghost use Rattle.cal_scan.specs.Lines.{texts};
 ghost use Rattle.cal_limits.specs.declared.TheConstants.{MOST_NANOMOLES};
 ghost use Rattle.cal_job.specs.Forms as forms;
 ghost use Rattle.cal_job.specs.Requests.{IsBetween, AreAmounts};
 ghost use Rattle.cal_job.specs.Saying.{Word, GivesAmounts};
 
-use crate::fault::WordsFault;
+use crate::form::AMOUNT_FORM;
 use crate::names::name;
 use crate::number::number_within;
-use crate::option::AMOUNT_FORM;
+use cal_args::WordsFault;
 use cal_limits::{LEAST_NANOMOLES, MOST_ELEMENTS};
 use cal_list::Items;
-use cal_scan::{COMMA, EQUALS, Name, names, parts};
+use cal_scan::{COMMA, EQUALS, Name, names, parts_at};
 use std::alloc::{AllocError, Global};
 
 /// Elements, and the amount of each in nmol.
@@ -46,16 +46,18 @@ fn item(alloc: Global, text: &[u8]) -> Result<(Name, u64), WordsFault>
     ensures range { IfOk result (λ item. IsBetween 1 MOST_NANOMOLES item.1) }
     ensures usage { result ≡ Err WordsFault.Usage → forms.item_of text.now ≡ None }
 {
-    let parts = parts(alloc, text, EQUALS)?;
+    let parts = parts_at(alloc, text, EQUALS)?;
     let item = item_from(alloc, parts.as_slice())?;
     Ok(item)
 }
 
 /// The name and the amount of each text.
 fn items(alloc: Global, words: &[&[u8]]) -> Result<Items<(Name, u64)>, WordsFault>
-    ensures value { IfOk result (λ items. map forms.item_of (texts words.now) ≡ map (λ item. Some item) items) }
+    ensures value { IfOk result (λ items.
+        map forms.item_of (texts words.now) ≡ map (λ item. Some item) items) }
     ensures range { IfOk result (λ items. All (λ item. IsBetween 1 MOST_NANOMOLES item.1) items) }
-    ensures usage { result ≡ Err WordsFault.Usage → (items : List (Word × ℕ)) → ¬ (map forms.item_of (texts words.now) ≡ map (λ item. Some item) items) }
+    ensures usage { result ≡ Err WordsFault.Usage → (items : List (Word × ℕ)) →
+        ¬ (map forms.item_of (texts words.now) ≡ map (λ item. Some item) items) }
 {
     let mut all = Items::new(alloc);
     'words: for i in 0..words.len() {
@@ -85,13 +87,15 @@ fn total(amounts: &[u64]) -> u64
     amounts.iter().sum()
 }
 
-/// The elements of the items, which have different names, and their amounts, which are not too little together.
+/// The elements of the items, which have different names, and their amounts, which are not too
+/// little together.
 fn composition_of(alloc: Global, items: &[(Name, u64)]) -> Result<Composition, WordsFault>
     requires { All (λ item. IsBetween 1 MOST_NANOMOLES item.1) items.now }
     ensures elements { IfOk result (λ a. a.elements ≡ map (λ item. item.0) items.now) }
     ensures amounts { IfOk result (λ a. a.amounts ≡ map (λ item. item.1) items.now) }
     ensures range { IfOk result (λ a. AreAmounts a.elements a.amounts) }
-    ensures usage { result ≡ Err WordsFault.Usage → ¬ AreAmounts (map (λ item. item.0) items.now) (map (λ item. item.1) items.now) }
+    ensures usage { result ≡ Err WordsFault.Usage →
+        ¬ AreAmounts (map (λ item. item.0) items.now) (map (λ item. item.1) items.now) }
 {
     let words = element_words(alloc, items)?;
     let found = names(alloc, Some(MOST_ELEMENTS), words.as_slice())?;
@@ -109,11 +113,12 @@ fn composition_of(alloc: Global, items: &[(Name, u64)]) -> Result<Composition, W
 
 /// The elements and the amounts that a text gives, with commas between its items.
 pub fn read_composition(alloc: Global, text: &[u8]) -> Result<Composition, WordsFault>
-    ensures value { IfOk result (λ a. GivesAmounts (text.now ∷ []) a.elements a.amounts) }
+    ensures value { IfOk result (λ a. GivesAmounts (Some text.now) a.elements a.amounts) }
     ensures range { IfOk result (λ a. AreAmounts a.elements a.amounts) }
-    ensures usage { result ≡ Err WordsFault.Usage → (elements : List Word) (amounts : List ℕ) → AreAmounts elements amounts → ¬ GivesAmounts (text.now ∷ []) elements amounts }
+    ensures usage { result ≡ Err WordsFault.Usage → (elements : List Word) (amounts : List ℕ) →
+        AreAmounts elements amounts → ¬ GivesAmounts (Some text.now) elements amounts }
 {
-    let parts = parts(alloc, text, COMMA)?;
+    let parts = parts_at(alloc, text, COMMA)?;
     let items = items(alloc, parts.as_slice())?;
     let composition = composition_of(alloc, items.as_slice())?;
     Ok(composition)

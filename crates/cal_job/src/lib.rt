@@ -1,16 +1,17 @@
-//! The words of a command line, and the request that they make.
+//! What the words of a command line ask for.
 #![tactic(auto)]
 
 mod composition;
-mod fault;
+mod form;
+mod law;
 mod names;
 mod number;
-mod option;
-mod pair;
-mod pairs;
+mod order;
 mod reading;
 mod request;
 
-pub use fault::WordsFault;
+pub use cal_args::WordsFault;
+pub use law::plain_words_say;
+pub use order::Order;
 pub use reading::read_words;
-pub use request::Request;
+pub use request::{CheckRequest, PathRequest, Request, TableRequest};

@@ -6,9 +6,9 @@ ghost use Rattle.cal_scan.specs.Lines.{texts};
 ghost use Rattle.cal_scan.specs.Words.{is_name};
 ghost use Rattle.cal_job.specs.Forms.{upper, listed_in};
 
-use crate::fault::WordsFault;
+use cal_args::WordsFault;
 use cal_list::Items;
-use cal_scan::{COMMA, Name, is_name_word, parts};
+use cal_scan::{COMMA, Name, is_name_word, parts_at};
 use std::alloc::{AllocError, Global};
 
 /// A text in capitals.
@@ -54,9 +54,10 @@ fn are_all_names(names: &[Name]) -> bool
 pub fn listed(alloc: Global, text: &[u8]) -> Result<Items<Name>, WordsFault>
     ensures value { IfOk result (λ names. names ≡ listed_in text.now) }
     ensures names { IfOk result (λ names. AllByRecursion (λ name. is_name name ≡ true) names) }
-    ensures usage { result ≡ Err WordsFault.Usage → ¬ AllByRecursion (λ name. is_name name ≡ true) (listed_in text.now) }
+    ensures usage { result ≡ Err WordsFault.Usage →
+        ¬ AllByRecursion (λ name. is_name name ≡ true) (listed_in text.now) }
 {
-    let parts = parts(alloc, text, COMMA)?;
+    let parts = parts_at(alloc, text, COMMA)?;
     let names = all_capitals(alloc, parts.as_slice())?;
     if !are_all_names(names.as_slice()) {
         return Err(WordsFault::Usage);

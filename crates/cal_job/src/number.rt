@@ -9,12 +9,13 @@ ghost use Rattle.cal_job.specs.Forms as forms;
 ghost use Rattle.cal_job.specs.Capped.{capped};
 ghost use Rattle.cal_job.specs.Requests.{IsBetween};
 
-use crate::fault::WordsFault;
-use crate::option::NumberForm;
-use cal_scan::{POINT, all_digits, capped_value, is_whole_number, parts};
+use crate::form::NumberForm;
+use cal_args::WordsFault;
+use cal_scan::{POINT, all_digits, capped_value, is_whole_number, parts_at};
 use std::alloc::{AllocError, Global};
 
-/// Above each number that a command line may give: where a number has grown to it, the value is out of range whatever follows.
+/// Above each number that a command line may give: where a number has grown to it, the value is out
+/// of range whatever follows.
 pub const CAP: u128 = 10_000_000_000_000;
 
 /// Whether a text is one digit or more, and nothing else.
@@ -65,18 +66,20 @@ fn fixed_from(places: usize, parts: &[&[u8]]) -> Option<u64>
     }
 }
 
-/// The plain number of at most `places` decimals that the text writes, in units of 10^-places, or the cap.
+/// The plain number of at most `places` decimals that the text writes, in units of 10^-places, or the
+/// cap.
 #[tactic(auto, unfolding(crate::specs::Forms::fixed_of))]
 fn fixed(alloc: Global, text: &[u8], places: usize) -> Result<Option<u64>, AllocError>
     requires { places ≤ 9 }
     ensures { IfOk result (λ number. number ≡ option_map capped (forms.fixed_of places text.now)) }
 {
-    let parts = parts(alloc, text, POINT)?;
+    let parts = parts_at(alloc, text, POINT)?;
     let number = fixed_from(places, parts.as_slice());
     Ok(number)
 }
 
-/// The plain number that the text writes, in units of the last decimal of its form, where it is within the form's range.
+/// The plain number that the text writes, in units of the last decimal of its form, where it is
+/// within the form's range.
 #[tactic(auto, unfolding(crate::specs::Forms::number_of))]
 pub fn number_within(alloc: Global, text: &[u8], form: NumberForm) -> Result<u64, WordsFault>
     requires decimals { form.decimals ≤ 9 }

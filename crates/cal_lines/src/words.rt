@@ -6,7 +6,7 @@ ghost use Rattle.cal_lines.specs.Places.{place};
 
 use crate::fault::TextFault;
 use crate::place::Place;
-use cal_scan::{LINE_FEED, SPACE, parts};
+use cal_scan::{LINE_FEED, SPACE, parts_at};
 use std::alloc::Global;
 
 /// The words of the line at a place, and the place behind it. A line without a line feed is at fault.
@@ -18,7 +18,7 @@ pub fn words_at<'a>(alloc: Global, at: Place<'a>) -> Result<(Vec<&'a [u8]>, Plac
         None => Err(TextFault::Line(at.number)),
         Some(end) => {
             let (line, tail) = at.rest.split_at(end);
-            let words = parts(alloc, line, SPACE)?;
+            let words = parts_at(alloc, line, SPACE)?;
             let (_, rest) = tail.split_at(1);
             let after = Place {
                 number: at.number + 1,

@@ -1,11 +1,15 @@
 -- The line of each refusal.
-use Rattle.std.specs.Prelude.{ℕ, List, [], ◌∷◌, ◌++◌, codes, ℤ}
+use Rattle.std.specs.Prelude.{ℕ, List, [], ◌∷◌, ◌++◌, slice_index_or, codes, ℤ}
+use Rattle.std.specs.List.{flat_map}
 use Rattle.std.specs.Fmt.{decimal, signed_decimal}
 use Rattle.cal_scan.specs.declared.byte.TheConstants.{LINE_FEED, SPACE}
+use Rattle.cal_scan.specs.Lines.{Word, line}
 use Rattle.cal_words.specs.declared.rules.Rule.{Rule}
 use Rattle.cal_words.specs.Rules.{name_of}
+use Rattle.cef_report.specs.Texts.{entry_words}
 use Rattle.cal_select.specs.declared.fault.SystemFault.{SystemFault}
 use Rattle.cal_select.specs.declared.fault.SystemFault.TheVariants.{UnknownElement, UnknownPhase, NoPhase, Ionic, RatiosTooWide, Missing, Cycle, Unsupported, TooLarge, EnergyTooLarge, LatticeTooLarge, TooFine, Memory}
+use Rattle.eq_solve.specs.declared.fault.Open.{Open}
 
 abbrev pub Line : Type 0
 Line = List ℕ
@@ -70,3 +74,9 @@ infeasible_line numbers = codes "refused system infeasible" ++ spaced_all number
 abbrev pub gap_line : List ℕ → ℕ → List ℤ → Line
 gap_line phase splits potentials =
     codes "refused gap phase " ++ phase ++ codes " splits " ++ decimal splits ++ codes " potentials" ++ spaced_all potentials ++ LINE_FEED ∷ []
+
+-- The lines of the kept entries, and that of the phase at which the sweep under the kept potentials spent the budget.
+abbrev pub open_text : List Word → ℕ → Open → List ℕ
+open_text phases budget left =
+    flat_map (λ entry. line (entry_words phases entry)) left.entries
+    ++ gap_line (slice_index_or phases left.phase []) budget left.potentials

@@ -25,7 +25,7 @@ pub fn cut_at(text: &[u8], mark: u8) -> Option<(&[u8], &[u8])>
     }
 }
 
-/// The parts between such bytes.
+/// What stands between such bytes: one part more than there are of them.
 #[tactic(auto, unfolding(crate::specs::Cuts::parts_at))]
 pub fn parts_at(alloc: Global, text: &[u8], mark: u8) -> Result<Vec<&[u8]>, AllocError>
     ensures { IfOk result (λ v. map (λ w. w.now) v.items ≡ parts_of mark text.now) }

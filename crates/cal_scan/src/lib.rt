@@ -25,4 +25,4 @@ pub use front_token::split_token;
 pub use fronts::{behind_spaces, name_bytes_at};
 pub use name::Name;
 pub use name_list::names;
-pub use words::{before, behind, is_name_word, is_word, parts, tokens};
+pub use words::{before, behind, is_name_word, is_word, tokens};

@@ -2,7 +2,7 @@
 
 ghost use Rattle.std.specs.Prelude.{◌≡◌, ◌==◌, IfOk};
 ghost use Rattle.cal_scan.specs.Lines.{texts};
-ghost use Rattle.std.specs.List.{list_all, slice_split};
+ghost use Rattle.std.specs.List.{list_all};
 ghost use Rattle.std.specs.Option.{option_map};
 ghost use Rattle.cal_scan.specs.Bytes.{is_name_byte};
 ghost use Rattle.cal_scan.specs.Words as spec;
@@ -42,13 +42,6 @@ pub fn is_name_word(text: &[u8]) -> bool
             all_may_stand(text)
         }
     }
-}
-
-/// What stands between the marks of a text: one part more than there are marks.
-pub fn parts(alloc: Global, text: &[u8], mark: u8) -> Result<Vec<&[u8]>, AllocError>
-    ensures { IfOk result (λ v. texts v.items ≡ slice_split (λ b. b == mark) text.now) }
-{
-    text.split(|byte| *byte == mark).collect(alloc)
 }
 
 /// The tokens of a text: its runs of bytes that are no spaces.

@@ -6,6 +6,5 @@ pub mod Accounting
 pub mod Walking
 pub mod Losing
 pub mod Walked
-pub mod Fine
 pub mod Outcomes
 pub mod Faults

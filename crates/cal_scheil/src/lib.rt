@@ -9,7 +9,6 @@ mod law;
 mod ledger;
 mod left;
 mod making;
-mod models;
 mod step;
 mod walk;
 

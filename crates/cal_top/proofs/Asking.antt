@@ -29,12 +29,12 @@ among P (k ∷ ns) m all on = by_test (m == k) refl on (λ rest. among P ns m al
     by_test true is ons rest = subst P (sym (eqb-true m k is)) all.0
     by_test false is ons rest = rest ons
 
-lattice_small : (n : ℕ) → is_lattice n ≡ true → n ≤ MOST_PARTS
+pub lattice_small : (n : ℕ) → is_lattice n ≡ true → n ≤ MOST_PARTS
 lattice_small n e =
     among (λ k. k ≤ MOST_PARTS) LATTICES n
     (omega arith, (omega arith, (omega arith, (omega arith, (omega arith, (omega arith, (omega arith, (omega arith, (omega arith, (omega arith, (omega arith, tt))))))))))) e
 
-lattice_some : (n : ℕ) → is_lattice n ≡ true → 1 ≤ n
+pub lattice_some : (n : ℕ) → is_lattice n ≡ true → 1 ≤ n
 lattice_some n e =
     among (λ k. 1 ≤ k) LATTICES n
     (omega arith, (omega arith, (omega arith, (omega arith, (omega arith, (omega arith, (omega arith, (omega arith, (omega arith, (omega arith, (omega arith, tt))))))))))) e

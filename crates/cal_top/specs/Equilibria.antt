@@ -1,10 +1,7 @@
--- What `equilibrium` replies over the bytes of its database, and why: one constructor for each cause.
-use Rattle.std.specs.Prelude.{◌≡◌, ◌≢◌, ℕ, ◌*◌, List, [], ◌∷◌, ◌++◌, map, slice_index_or, Err, Ok, ℤ, pos, if◌then◌else◌}
-use Rattle.std.specs.List.{flat_map}
-use Rattle.cal_words.specs.declared.rules.Rule.{Rule}
+-- What `equilibrium` replies over its database, and why: one constructor for each cause.
+use Rattle.std.specs.Prelude.{◌≡◌, ◌≢◌, ℕ, ◌*◌, List, [], ◌∷◌, map, Err, Ok, ℤ, pos, if◌then◌else◌}
 use Rattle.cal_base.specs.declared.status.Status.{Status}
-use Rattle.cal_base.specs.declared.status.Status.TheVariants.{Done, BadDatabase, BadSystem, GapNotClosed}
-use Rattle.cal_scan.specs.Lines.{line}
+use Rattle.cal_base.specs.declared.status.Status.TheVariants.{Done, BadSystem, GapNotClosed}
 use Rattle.cal_scan.specs.Names.{same_name}
 use Rattle.cal_job.specs.declared.request.Request.{Request}
 use Rattle.cal_job.specs.Saying.{Word}
@@ -15,9 +12,8 @@ use Rattle.cef_report.specs.Holding.{Holds}
 use Rattle.cef_report.specs.Certificates.{IsCertified}
 use Rattle.cef_report.specs.Feasibility.{IsFeasible, IsProofOfNone}
 use Rattle.cef_report.specs.Spelled.{IsSpelled}
-use Rattle.cef_report.specs.Texts.{text, entry_words}
+use Rattle.cef_report.specs.Texts.{text}
 use Rattle.tdb_read.specs.Database.{Database}
-use Rattle.tdb_read.specs.Folding.{IsDatabase, IsFault}
 use Rattle.cal_select.specs.declared.fault.SystemFault.{SystemFault}
 use Rattle.cal_select.specs.declared.fault.SystemFault.TheVariants as faults
 use Rattle.cal_select.specs.Causes.{Answers}
@@ -25,7 +21,7 @@ use Rattle.eq_sweep.specs.declared.swept.Swept.TheVariants.{Closed}
 use Rattle.eq_sweep.specs.Sweeps.{IsSweep}
 use Rattle.eq_solve.specs.declared.fault.Open.{Open}
 use Rattle.eq_solve.specs.Answers.{IsNear, IsOpen}
-use Rattle.cal_refusal.specs.Refusals.{database_line, system_line, infeasible_line, gap_line}
+use Rattle.cal_refusal.specs.Refusals.{system_line, infeasible_line, open_text}
 
 -- ---- what is asked
 
@@ -77,18 +73,12 @@ pub record IsInfeasible (system : System) (request : Request) (numbers : List �
 abbrev pub phase_names : System → List Word
 phase_names system = map (λ phase. phase.name) system.phases
 
--- The lines of the kept entries, and that of the phase at which the sweep under the kept potentials spent the asked budget.
-abbrev pub open_text : System → Request → Open → List ℕ
-open_text system request left =
-    flat_map (λ entry. line (entry_words (phase_names system) entry)) left.entries
-    ++ gap_line (slice_index_or (phase_names system) left.phase []) request.budget left.potentials
-
 -- The text is that of what is kept of an equilibrium that is left open, where the asked totals are feasible.
 pub record IsLeftOpen (system : System) (request : Request) (printed : List ℕ) : Type 0 where
   pub left : Open
   pub open_is : IsOpen system (IsSweep system.phases) (asked_of request system) request.gap request.budget left
   pub feasible : IsFeasible system (asked_of request system)
-  pub printed_is : printed ≡ open_text system request left
+  pub printed_is : printed ≡ open_text (phase_names system) request.budget left
 
 -- The reply over a system.
 pub data FromSystem (system : System) (request : Request) (status : Status) (printed : List ℕ) : Type 0 where
@@ -106,10 +96,3 @@ pub data FromDatabase (db : Database) (request : Request) (status : Status) (pri
   refused : (fault : SystemFault) → IsRefused db request.job fault → status ≡ BadSystem → printed ≡ system_line fault → FromDatabase db request status printed
   -- there is this one
   selected : (system : System) → IsSelected db request.job system → FromSystem system request status printed → FromDatabase db request status printed
-
--- The reply over the bytes of the database.
-pub data FromBytes (bytes : List ℕ) (request : Request) (status : Status) (printed : List ℕ) : Type 0 where
-  -- the text has a first fault
-  bad_database : (line : ℕ) (rule : Rule) → IsFault bytes line rule → status ≡ BadDatabase → printed ≡ database_line line rule → FromBytes bytes request status printed
-  -- it has none, and this is its database
-  database : (db : Database) → IsDatabase bytes db → FromDatabase db request status printed → FromBytes bytes request status printed

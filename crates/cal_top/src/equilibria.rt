@@ -7,24 +7,24 @@ ghost use Rattle.cef_core.specs.Systems.{IsSystem};
 ghost use Rattle.cef_report.specs.Feasibility.{AreAsked};
 ghost use Rattle.temp_fun.specs.Functions.{AreFunctions};
 ghost use Rattle.cal_refusal.specs.Refusals.{system_line};
-ghost use Rattle.cal_top.specs.Equilibria.{asked_of, FromSystem, FromDatabase, FromBytes};
+ghost use Rattle.cal_top.specs.Equilibria.{asked_of, FromSystem, FromDatabase};
+ghost use Rattle.cal_top.specs.Texts.{OverDatabase};
 
 use crate::asked::totals_asked;
-use crate::models::models_of;
-use crate::open::open_text;
 use crate::reply::Reply;
+use crate::texts::{Opened, database_in};
 use cal_base::Status;
 use cal_job::Request;
 use cal_limits::HIGHEST_TEMPERATURE;
 use cal_log::Logs;
-use cal_refusal::{database, infeasible, system_refusal};
+use cal_refusal::{infeasible, open_text, system_refusal};
 use cal_select::{SystemFault, system};
 use cef_core::System;
-use cef_phase::PhaseModel;
-use eq_solve::{SolveFault, equilibrium};
+use cef_phase::{PhaseModel, models_of};
+use eq_solve::{SolveFault, equilibrium, phase_names};
 use eq_text::write_report;
 use std::alloc::{AllocError, Global};
-use tdb_read::{Db, DbFault, read};
+use tdb_read::Db;
 use temp_fun::some_outcome;
 
 /// The equilibrium of what is asked of the system, whose phases have these models.
@@ -65,7 +65,8 @@ fn by_models<P: PhaseModel>(
             })
         }
         Err(SolveFault::GapNotClosed(left)) => {
-            let text = open_text(alloc, request, system, &left)?;
+            let names = phase_names(alloc, system.phases.as_slice())?;
+            let text = open_text(alloc, names.as_slice(), request.budget, &left)?;
             Ok(Reply {
                 status: Status::GapNotClosed,
                 text,
@@ -94,7 +95,7 @@ fn over_system(
 }
 
 /// The line of the cause why there is no system. Want of memory has none.
-fn refused(alloc: Global, fault: &SystemFault) -> Result<Reply, AllocError>
+pub(crate) fn refused(alloc: Global, fault: &SystemFault) -> Result<Reply, AllocError>
     ensures want { IfOk result (λ reply. fault.now ≢ SystemFault.Memory) }
     ensures status { IfOk result (λ reply. reply.status ≡ Status.BadSystem) }
     ensures text { IfOk result (λ reply. reply.text.items ≡ system_line fault.now) }
@@ -140,21 +141,15 @@ pub(crate) fn over_bytes(
 ) -> Result<Reply, AllocError>
     requires request { IsRequest request.now }
     requires limit { length bytes.now ≤ MOST_DATABASE_BYTES }
-    ensures { IfOk result (λ reply. FromBytes bytes.now request.now reply.status reply.text.items) }
+    ensures { IfOk result (λ reply.
+        OverDatabase bytes.now (λ db. FromDatabase db request.now) reply.status reply.text.items) }
 {
-    let found = read(alloc, bytes);
-    match found {
-        Ok(db) => {
+    let opened = database_in(alloc, bytes)?;
+    match opened {
+        Opened::Refused(reply) => Ok(reply),
+        Opened::Database(db) => {
             let reply = over_database(alloc, request, &db)?;
             Ok(reply)
         }
-        Err(DbFault::Bad { line, rule }) => {
-            let text = database(alloc, line, rule)?;
-            Ok(Reply {
-                status: Status::BadDatabase,
-                text,
-            })
-        }
-        Err(DbFault::Memory) => Err(AllocError),
     }
 }

@@ -1,12 +1,16 @@
-//! A run of the program: the words are read, then the database, and what they give is written.
+//! A run of the program: the words are read, then the files that they name, and what they give is written.
 #![tactic(auto)]
 
+mod answer;
 mod asked;
+mod documents;
 mod equilibria;
-mod models;
-mod open;
+mod loaded;
+mod orders;
+mod paths;
 mod reply;
 mod running;
+mod texts;
 mod words;
 
 pub use running::run;

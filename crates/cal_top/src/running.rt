@@ -2,16 +2,22 @@ ghost use Rattle.std.specs.Prelude.{◌≡◌, ◌≢◌, ◌⊎◌, List, ℕ, 
 ghost use Rattle.cal_base.specs.declared.status.Status.{Status};
 ghost use Rattle.cal_base.specs.Outside.{Rose, append_told, AppendsAllBut};
 ghost use Rattle.cal_top.specs.Seen.{seen};
-ghost use Rattle.cal_top.specs.Replies.{IsAnswerable, Replied, RepliedPartly};
+ghost use Rattle.cal_top.specs.Complete.{IsAnswerable};
+ghost use Rattle.cal_top.specs.Replies.{Replied, RepliedPartly};
 
+use crate::answer::{Answer, PathAsked};
 use crate::reply::Reply;
 use crate::words::answer;
 use cal_base::{Library, Sink, Status, write_all};
+use path_run::run_path;
+use path_text::one_document;
 use std::alloc::Global;
 use tdb_read::one_outcome;
 
 /// A run of the program over the words behind its name: the text of its one reply is appended to what the sink has, and
-/// the status says which it was. `equilibrium` reads a database and prints the equilibrium of what is asked.
+/// the status says which it was. `equilibrium` reads a database and prints the equilibrium of what is asked; `scheil` prints
+/// the steps of a solidification path, each as soon as it was made; `check` judges a report or a path over a database;
+/// `table` prints the fields of one, separated by commas.
 pub fn run<L: Library, K: Sink>(
     alloc: Global,
     words: &[String],
@@ -40,10 +46,12 @@ pub fn run<L: Library, K: Sink>(
         (result ≡ Status.Done) ⊎ (result ≡ Status.Memory) }
 {
     one_outcome();
+    one_document();
     let answered = answer(alloc, words, files);
     match answered {
         Err(_) => Status::Memory,
-        Ok(reply) => write(reply, out),
+        Ok(Answer::Reply(reply)) => write(reply, out),
+        Ok(Answer::Path(PathAsked { db, logs, job })) => run_path(alloc, &db, &logs, job, out),
     }
 }
 

@@ -1,4 +1,4 @@
-//! Phases of the compound energy formalism on a lattice, their constitutions and energies, and trees of boxes.
+//! Phases of the compound energy formalism on a lattice, their constitutions and energies.
 #![tactic(auto)]
 
 mod constitution;
@@ -13,7 +13,6 @@ mod shape;
 mod site;
 mod sizes;
 mod system;
-mod tree;
 
 pub use cal_scan::Name;
 pub use cef_kind::Kind;
@@ -28,4 +27,3 @@ pub use row::sum_of;
 pub use site::{Site, part_at};
 pub use sizes::{magnitudes_within, ratio_sum, sigma, size_within};
 pub use system::System;
-pub use tree::{Node, Tree};

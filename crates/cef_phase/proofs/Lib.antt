@@ -9,3 +9,4 @@ pub mod Secants
 pub mod Betters
 pub mod Walking
 pub mod Bounding
+pub mod Fine

@@ -6,6 +6,7 @@ mod law;
 mod magnetism;
 mod mixing;
 mod model;
+mod models;
 mod part;
 mod row;
 mod slope;
@@ -15,4 +16,5 @@ mod walk;
 
 pub use law::energy_is_bounded;
 pub use model::PhaseModel;
+pub use models::models_of;
 pub use sum_phase::SumPhase;

@@ -3,9 +3,9 @@ use Rattle.std.specs.Prelude.{◌≡◌, ℕ, ◌<◌, ◌≤◌, List, [], ◌�
 use Rattle.std.specs.List.{AllByRecursion, concat}
 use Rattle.cef_report.specs.declared.entry.Entry.{Entry}
 use Rattle.cef_report.specs.declared.report.Report.{Report}
-use Rattle.cef_core.specs.declared.tree.Node.{Node}
-use Rattle.cef_core.specs.declared.tree.Node.TheVariants.{Split, Leaf, Empty}
-use Rattle.cef_core.specs.declared.tree.Tree.{Tree}
+use Rattle.cef_tree.specs.declared.tree.Node.{Node}
+use Rattle.cef_tree.specs.declared.tree.Node.TheVariants.{Split, Leaf, Empty}
+use Rattle.cef_tree.specs.declared.tree.Tree.{Tree}
 use Rattle.cef_core.specs.Lattices.{is_lattice}
 use Rattle.cal_limits.specs.declared.TheConstants.{LOWEST_TEMPERATURE, HIGHEST_TEMPERATURE, MOST_ELEMENTS, MOST_ASKED, MOST_SUBLATTICES, MOST_SITES, MOST_COUNT, MOST_ENTRIES, MOST_NUMBER, MOST_TOLERANCE, MOST_PRINTED_GAP}
 use Rattle.cal_scan.specs.Names.{AreNames}

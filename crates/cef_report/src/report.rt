@@ -1,6 +1,7 @@
 use crate::entry::Entry;
 use cal_list::Items;
-use cef_core::{Name, Tree};
+use cef_core::Name;
+use cef_tree::Tree;
 
 /// An equilibrium with its certificate.
 #[derive(Drop)]

@@ -17,7 +17,7 @@ use Rattle.lp_core.specs.Plans.{Weight, given_amount, cost_of, IsPlan}
 use Rattle.lp_core.specs.declared.plan.Plan.{Plan}
 use Rattle.cef_report.specs.declared.entry.Entry.{Entry}
 use Rattle.cef_core.specs.declared.system.System.{System}
-use Rattle.cef_core.specs.declared.tree.Tree.{Tree}
+use Rattle.cef_tree.specs.declared.tree.Tree.{Tree}
 use Rattle.cef_report.specs.Assemblages.{content_of, total, total_energy, IsEntry, IsAssemblage}
 use Rattle.cef_report.specs.Certificates.{IsAbove, MeetsGap}
 use Rattle.cef_core.specs.Worth.{worth}

@@ -14,7 +14,7 @@ use Rattle.cal_math.specs.Whole.{*ℤ-≤, abs-*ℤ-le, abs-floor-le}
 use Rattle.cal_math.specs.Vectors.{at, sum_to}
 use Rattle.cef_core.specs.declared.phase.PhaseAt.{PhaseAt}
 use Rattle.cef_core.specs.declared.system.System.{System}
-use Rattle.cef_core.specs.declared.tree.Tree.{Tree}
+use Rattle.cef_tree.specs.declared.tree.Tree.{Tree}
 use Rattle.cef_core.specs.Constitutions.{HasShape}
 use Rattle.cef_core.specs.Systems.{IsPhaseOf, IsSystem}
 use Rattle.cef_report.specs.declared.entry.Entry.{Entry}

@@ -7,13 +7,13 @@ use Rattle.std.proofs.lemmas.Nat.{mul-le}
 use Rattle.std.proofs.lemmas.List.{length-map}
 use Rattle.cef_core.specs.declared.phase.PhaseAt.{PhaseAt}
 use Rattle.cef_core.specs.declared.system.System.{System}
-use Rattle.cef_core.specs.declared.tree.Tree.{Tree}
+use Rattle.cef_tree.specs.declared.tree.Tree.{Tree}
 use Rattle.cef_core.specs.Phases.{IsFine}
 use Rattle.cef_core.specs.Systems.{IsAmong, IsPhaseOf, IsSystem, greatest, widest_of, all_points}
 use Rattle.cef_phase.specs.Bounds.{IsOneOf, IsPlane}
 use Rattle.cef_report.specs.Spelled.{IsNumber, IsSpelledTree, Spans}
 use Rattle.cef_report.specs.Spelled.{leaf as spans_leaf, none as spans_none, cut as spans_cut}
-use Rattle.cef_core.specs.declared.tree.Node.{Node}
+use Rattle.cef_tree.specs.declared.tree.Node.{Node}
 use Rattle.cef_core.specs.Shapes.{places}
 use Rattle.cef_box.specs.declared.range.Range.{Range}
 use Rattle.cef_box.specs.Boxes.{IsRange}

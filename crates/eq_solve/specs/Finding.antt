@@ -6,7 +6,7 @@ use Rattle.cal_math.specs.Vectors.{at}
 use Rattle.lp_basis.specs.declared.column.Column.{Column}
 use Rattle.lp_core.specs.Plans.{Weight, given_amount, cost_of}
 use Rattle.cef_core.specs.declared.system.System.{System}
-use Rattle.cef_core.specs.declared.tree.Tree.{Tree}
+use Rattle.cef_tree.specs.declared.tree.Tree.{Tree}
 use Rattle.cef_report.specs.declared.entry.Entry.{Entry}
 use Rattle.cef_report.specs.Assemblages.{total, total_energy, IsAssemblage, IsWithin}
 use Rattle.cef_report.specs.Certificates.{IsAbove, MeetsGap}

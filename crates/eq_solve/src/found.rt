@@ -6,8 +6,8 @@ ghost use Rattle.eq_solve.specs.Finding.{AreFigures};
 use crate::amount::{entries_of, some_of, totals_of};
 use crate::figure::{energy_of, gap_of, left_in, tolerance_of};
 use cal_list::Items;
-use cef_core::Tree;
 use cef_report::Entry;
+use cef_tree::Tree;
 use lp_core::Column;
 use std::alloc::{AllocError, Global};
 

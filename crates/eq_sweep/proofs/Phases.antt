@@ -5,8 +5,8 @@ use Rattle.std.specs.List.{AllByRecursion}
 use Rattle.std.proofs.lemmas.List.{append-nil}
 use Rattle.std.proofs.lemmas.List.Sums.{sum_by-cons}
 use Rattle.cef_core.specs.declared.phase.PhaseAt.{PhaseAt}
-use Rattle.cef_core.specs.declared.tree.Node.{Node}
-use Rattle.cef_core.specs.declared.tree.Tree.{Tree}
+use Rattle.cef_tree.specs.declared.tree.Node.{Node}
+use Rattle.cef_tree.specs.declared.tree.Tree.{Tree}
 use Rattle.cef_core.specs.Constitutions.{IsConstitution}
 use Rattle.cef_core.specs.Phases.{IsFine}
 use Rattle.cef_core.specs.Points.{points_in}

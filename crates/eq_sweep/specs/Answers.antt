@@ -1,7 +1,7 @@
 -- What each answer of a sweep tells.
 use Rattle.std.specs.Prelude.{◌≡◌, ℕ, ◌<◌, List, Some, length, slice_get, ℤ, pos, ◌*ℤ◌, ◌<ℤ◌}
 use Rattle.cef_core.specs.declared.phase.PhaseAt.{PhaseAt}
-use Rattle.cef_core.specs.declared.tree.Tree.{Tree}
+use Rattle.cef_tree.specs.declared.tree.Tree.{Tree}
 use Rattle.cef_core.specs.Constitutions.{IsConstitution, content}
 use Rattle.cef_core.specs.Energies.{energy}
 use Rattle.cef_core.specs.Systems.{all_points}

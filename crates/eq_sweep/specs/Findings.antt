@@ -2,8 +2,8 @@
 use Rattle.std.specs.Prelude.{◌≡◌, ℕ, ◌+◌, ◌/◌, ◌<◌, ◌≤◌, List, [], ◌∷◌, ◌++◌, length, Option, Some, None, ℤ}
 use Rattle.std.specs.List.{AllByRecursion}
 use Rattle.cef_core.specs.declared.phase.PhaseAt.{PhaseAt}
-use Rattle.cef_core.specs.declared.tree.Node.{Node}
-use Rattle.cef_core.specs.declared.tree.Node.TheVariants.{Split, Leaf, Empty}
+use Rattle.cef_tree.specs.declared.tree.Node.{Node}
+use Rattle.cef_tree.specs.declared.tree.Node.TheVariants.{Split, Leaf, Empty}
 use Rattle.cef_core.specs.Shapes.{shape}
 use Rattle.cef_box.specs.declared.range.Range.{Range}
 use Rattle.cef_box.specs.Boxes.{IsSingle}

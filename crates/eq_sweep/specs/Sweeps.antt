@@ -2,8 +2,8 @@
 -- order, until a visit stops the sweep.
 use Rattle.std.specs.Prelude.{◌≡◌, ℕ, zero, suc, List, [], ◌∷◌, ℤ}
 use Rattle.cef_core.specs.declared.phase.PhaseAt.{PhaseAt}
-use Rattle.cef_core.specs.declared.tree.Node.{Node}
-use Rattle.cef_core.specs.declared.tree.Tree.{Tree}
+use Rattle.cef_tree.specs.declared.tree.Node.{Node}
+use Rattle.cef_tree.specs.declared.tree.Tree.{Tree}
 use Rattle.cef_box.specs.Tight.{full_box}
 use Rattle.eq_sweep.specs.declared.swept.Swept.{Swept}
 use Rattle.eq_sweep.specs.declared.swept.Swept.TheVariants.{Closed, Below, Out}

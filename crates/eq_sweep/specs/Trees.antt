@@ -1,9 +1,9 @@
 -- Trees of boxes that show that all constitutions of phases lie on or above the plane of the potentials.
 use Rattle.std.specs.Prelude.{◌≡◌, ℕ, List, [], ◌∷◌, Some, slice_get, ℤ, pos, ◌*ℤ◌, ◌≤ℤ◌}
 use Rattle.cef_core.specs.declared.phase.PhaseAt.{PhaseAt}
-use Rattle.cef_core.specs.declared.tree.Node.{Node}
-use Rattle.cef_core.specs.declared.tree.Node.TheVariants.{Split, Leaf, Empty}
-use Rattle.cef_core.specs.declared.tree.Tree.{Tree}
+use Rattle.cef_tree.specs.declared.tree.Node.{Node}
+use Rattle.cef_tree.specs.declared.tree.Node.TheVariants.{Split, Leaf, Empty}
+use Rattle.cef_tree.specs.declared.tree.Tree.{Tree}
 use Rattle.cef_core.specs.Constitutions.{IsConstitution, content}
 use Rattle.cef_core.specs.Energies.{energy}
 use Rattle.cef_core.specs.Worth.{worth}

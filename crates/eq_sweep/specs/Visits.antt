@@ -2,8 +2,8 @@
 -- all: the nodes of its tree in preorder, or what stops the sweep.
 use Rattle.std.specs.Prelude.{◌≡◌, ℕ, ◌+◌, ◌/◌, ◌≤◌, ◌<◌, List, ◌∷◌, ℤ, pos, ◌*ℤ◌, ◌≤ℤ◌, ◌<ℤ◌}
 use Rattle.cef_core.specs.declared.phase.PhaseAt.{PhaseAt}
-use Rattle.cef_core.specs.declared.tree.Node.{Node}
-use Rattle.cef_core.specs.declared.tree.Node.TheVariants.{Split, Leaf, Empty}
+use Rattle.cef_tree.specs.declared.tree.Node.{Node}
+use Rattle.cef_tree.specs.declared.tree.Node.TheVariants.{Split, Leaf, Empty}
 use Rattle.cef_core.specs.Constitutions.{HasContent, content}
 use Rattle.cef_core.specs.Energies.{energy}
 use Rattle.cef_core.specs.Worth.{worth}

@@ -15,8 +15,9 @@ use crate::cut::{Cut, middle_cut};
 use crate::worth::worth_of;
 use cal_list::Items;
 use cef_box::{BoxRange, corner_point};
-use cef_core::{Node, PhaseAt, Site, has_content};
+use cef_core::{PhaseAt, Site, has_content};
 use cef_phase::PhaseModel;
+use cef_tree::Node;
 use std::alloc::{AllocError, Global};
 
 /// What is found of a box: its node where it is not split, a corner below the plane, or the cut of its parts.

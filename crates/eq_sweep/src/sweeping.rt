@@ -9,8 +9,8 @@ ghost use Rattle.eq_sweep.specs.Trees.{AreCovered, AreAbove};
 use crate::swept::Swept;
 use crate::visiting::{Visit, visit_phase};
 use cal_list::Items;
-use cef_core::Tree;
 use cef_phase::PhaseModel;
+use cef_tree::Tree;
 use std::alloc::{AllocError, Global};
 
 /// Whether all constitutions of the phases lie on or above the plane of the potentials, with at most so many splits of boxes

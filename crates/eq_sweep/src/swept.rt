@@ -1,5 +1,6 @@
 use cal_list::Items;
-use cef_core::{Site, Tree};
+use cef_core::Site;
+use cef_tree::Tree;
 
 /// The answer of a sweep.
 #[derive(Drop)]

@@ -11,8 +11,9 @@ use crate::examining::{Finding, examine};
 use crate::spare::{copies_of, push_parts};
 use cal_list::Items;
 use cef_box::full;
-use cef_core::{Node, Site, Tree};
+use cef_core::Site;
 use cef_phase::PhaseModel;
+use cef_tree::{Node, Tree};
 use std::alloc::{AllocError, Global};
 
 /// How the visit of a phase ends: with its tree and the number of splits made so far, or with what stops the sweep.

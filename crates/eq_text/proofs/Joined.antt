@@ -5,7 +5,7 @@ use Rattle.std.specs.List.{flat_map, concat}
 use Rattle.std.specs.Fmt.{decimal}
 use Rattle.std.proofs.lemmas.List.{append-nil, take_all}
 use Rattle.cef_report.specs.declared.entry.Entry.{Entry}
-use Rattle.cef_core.specs.declared.tree.Tree.{Tree}
+use Rattle.cef_tree.specs.declared.tree.Tree.{Tree}
 use Rattle.cal_scan.specs.Lines.{Word, Line, line}
 use Rattle.cef_report.specs.Texts.{node_words, entry_words, entry_lines, tree_lines}
 

@@ -5,8 +5,8 @@ use Rattle.std.specs.List.{AllByRecursion}
 use Rattle.std.specs.Fmt.{decimal, signed_decimal}
 use Rattle.cal_limits.specs.declared.TheConstants.{MOST_COUNT, MOST_NUMBER}
 use Rattle.cal_scan.specs.Words.{same_word}
-use Rattle.cef_core.specs.declared.tree.Node.{Node}
-use Rattle.cef_core.specs.declared.tree.Node.TheVariants.{Split, Leaf, Empty}
+use Rattle.cef_tree.specs.declared.tree.Node.{Node}
+use Rattle.cef_tree.specs.declared.tree.Node.TheVariants.{Split, Leaf, Empty}
 use Rattle.cef_report.specs.Spelled.{IsNumber, Spans}
 use Rattle.cef_report.specs.Spelled.Spans.{leaf, none, cut}
 use Rattle.cal_scan.specs.Lines.{Word}

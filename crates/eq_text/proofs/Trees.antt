@@ -3,8 +3,8 @@ use Rattle.std.proofs.Common.{◌≡◌, ℕ, suc, ◌+◌, List, [], ◌∷◌,
 use Rattle.std.specs.Prelude.{codes}
 use Rattle.std.specs.List.{AllByRecursion}
 use Rattle.cal_scan.specs.Words.{is_name}
-use Rattle.cef_core.specs.declared.tree.Node.TheVariants.{Empty}
-use Rattle.cef_core.specs.declared.tree.Tree.{Tree}
+use Rattle.cef_tree.specs.declared.tree.Node.TheVariants.{Empty}
+use Rattle.cef_tree.specs.declared.tree.Tree.{Tree}
 use Rattle.cef_report.specs.Spelled.{IsSpelledTree}
 use Rattle.cal_scan.specs.Lines.{Word, Line, line}
 use Rattle.cef_report.specs.Texts.{node_words, tree_lines}

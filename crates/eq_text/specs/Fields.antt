@@ -4,7 +4,7 @@ use Rattle.eq_text.specs.declared.read.parts.Sums.{Sums}
 use Rattle.eq_text.specs.declared.read.parts.Body.{Body}
 use Rattle.eq_text.specs.declared.read.parts.Named.{Named}
 use Rattle.std.specs.Prelude.{List}
-use Rattle.cef_core.specs.declared.tree.Tree.{Tree}
+use Rattle.cef_tree.specs.declared.tree.Tree.{Tree}
 use Rattle.eq_text.specs.Parsing as lines
 
 abbrev pub closed : List Tree → lines.Closing

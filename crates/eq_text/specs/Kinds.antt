@@ -6,8 +6,8 @@ use Rattle.cal_scan.specs.Words.{same_word}
 use Rattle.cal_scan.specs.Lines.{Word}
 use Rattle.cef_core.specs.Lattices.{is_lattice}
 use Rattle.cef_report.specs.declared.entry.Entry.{Entry}
-use Rattle.cef_core.specs.declared.tree.Node.{Node}
-use Rattle.cef_core.specs.declared.tree.Node.TheVariants.{Split, Leaf, Empty}
+use Rattle.cef_tree.specs.declared.tree.Node.{Node}
+use Rattle.cef_tree.specs.declared.tree.Node.TheVariants.{Split, Leaf, Empty}
 use Rattle.cal_lines.specs.Words.{natural_of, integer_of}
 use Rattle.cal_lines.specs.Kinds.{all_integers, if_some, with_count}
 

@@ -4,9 +4,9 @@ use Rattle.cal_limits.specs.declared.TheConstants.{MOST_ELEMENTS, MOST_NUMBER, M
 use Rattle.cal_scan.specs.Lines.{Word}
 use Rattle.cef_report.specs.declared.entry.Entry.{Entry}
 use Rattle.cef_report.specs.declared.report.Report.{Report}
-use Rattle.cef_core.specs.declared.tree.Node.{Node}
-use Rattle.cef_core.specs.declared.tree.Node.TheVariants.{Split, Leaf, Empty}
-use Rattle.cef_core.specs.declared.tree.Tree.{Tree}
+use Rattle.cef_tree.specs.declared.tree.Node.{Node}
+use Rattle.cef_tree.specs.declared.tree.Node.TheVariants.{Split, Leaf, Empty}
+use Rattle.cef_tree.specs.declared.tree.Tree.{Tree}
 use Rattle.cal_lines.specs.Reading.{Lines, Read, ◌>>=◌, both, of_line, many, pair, only}
 use Rattle.cal_lines.specs.Choosing.{each}
 use Rattle.cal_lines.specs.Kinds.{names_after}

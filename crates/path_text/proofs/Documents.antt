@@ -27,7 +27,7 @@ use Rattle.cef_path.specs.Spelled.{StandAt, first_step_line}
 use Rattle.path_text.specs.declared.kind.Document.{Document}
 use Rattle.path_text.specs.declared.kind.Document.TheVariants as document
 use Rattle.path_text.specs.Parsing.{Head, Path, path_at, path_fields}
-use Rattle.path_text.specs.Documents.{document_lines, document_text, IsSpelledDocument, Reads, IsFaultLine}
+use Rattle.path_text.specs.Documents.{document_lines, document_text, IsSpelledDocument, Reads, IsFaultLine, OneDocument}
 use Rattle.path_text.specs.Choices.{document_at, document_of, document_fields, StandsFrom}
 use Rattle.path_text.proofs.Joins.{path_joined}
 use Rattle.path_text.proofs.Sayings.{word_after}
@@ -161,6 +161,19 @@ is_fault bytes (Err (faults.Line n)) given =
       goes = (document_from y, from (document_from y) (from_stands y) fits, s.goes.2, spells (document_from y) ∙ ap document_spelled (there y) ∙ s.goes.3);
       ends = λ longer others more d cut fits spelled. s.ends longer others more (document_fields d) cut (to d fits) (sym (spells d) ∙ spelled);
     }
+
+-- the document that the lines give, where they give one
+one_by : (bytes : List ℕ) (r : Result (Path ⊎ Whole) ℕ) → r ≡ document_of (1, lines_of bytes) → (d e : Document) → IsSpelledDocument d → IsSpelledDocument e
+    → bytes ≡ document_text d → bytes ≡ document_text e → d ≡ e
+one_by bytes (Ok y) same d e fits_d fits_e text_d text_e =
+    let found : Gives document_fields (Ok (document_from y)) (document_of (1, lines_of bytes)) = sym same ∙ ap (λ (z : Path ⊎ Whole). Ok z) (sym (there y)) in
+    sym (is_only bytes (Ok (document_from y)) found (from_stands y) d fits_d text_d) ∙ is_only bytes (Ok (document_from y)) found (from_stands y) e fits_e text_e
+one_by bytes (Err n) same d e fits_d fits_e text_d text_e =
+    let fault : Gives document_fields (Err (faults.Line n)) (document_of (1, lines_of bytes)) = sym same in
+    absurd (is_only bytes (Err (faults.Line n)) fault tt d fits_d text_d)
+
+pub one_document : OneDocument
+one_document bytes d e fits_d fits_e text_d text_e = one_by bytes (document_of (1, lines_of bytes)) refl d e fits_d fits_e text_d text_e
 
 -- ---- the two ways
 

@@ -33,3 +33,7 @@ abbrev pub Reads : Result Document TextFault → Document → Type 0
 Reads (Ok found) d = found ≡ d
 Reads (Err faults.Memory) d = Unit {0}
 Reads (Err (faults.Line n)) d = ⊥
+
+-- bytes are the text of at most one document
+abbrev pub OneDocument : Type 0
+OneDocument = (bytes : List ℕ) (d e : Document) → IsSpelledDocument d → IsSpelledDocument e → bytes ≡ document_text d → bytes ≡ document_text e → d ≡ e

@@ -3,6 +3,7 @@
 
 mod document;
 mod kind;
+mod law;
 mod lines;
 mod parts;
 mod reading;
@@ -10,4 +11,5 @@ mod write;
 
 pub use document::read_document;
 pub use kind::Document;
+pub use law::one_document;
 pub use write::{write_finish, write_head, write_step};

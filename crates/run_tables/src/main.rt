@@ -1,7 +1,8 @@
-//! Runs over databases in memory. A row says what it shows; behind its first `~` are the name of a text and behind each `|` a line that
-//! stands in it at a place or at its end; behind its second are the words. What is printed is what the row shows, the status and the
-//! text of the run, in which `/` is a line feed; in a row it is `^`. Where parts of the text follow behind a third `~`, with `|` between
-//! them, it is printed of each whether the text has it, in place of the text.
+//! Runs over files in memory. Between `~` a row has what it shows; a database, the file `DB`; the words; and, where they are wanted,
+//! parts of the printed text with `|` between them, and a report or a path, the file `R`. A file is the name of a text and, each behind
+//! a `|`, the number of a line of two digits with a space and the line that stands there, or at the end where there is no such line; or
+//! with `-`, and the line is taken out. What is printed is what the row shows, the status and the text of the run, in which `/` is a line
+//! feed; in a row it is `^`. Where parts of the text are named, it is printed of each whether the text has it, in place of the text.
 #![tactic(auto)]
 
 mod texts;
@@ -13,12 +14,14 @@ use std::alloc::{AllocError, Global};
 use std::io;
 use texts::lines;
 
-/// Puts a line of two digits, a space and a text in its place, or at the end.
+/// Puts a line in its place or at the end, or takes one out.
 fn put_line<'a>(lines: &mut Vec<&'a [u8]>, line: &'a [u8]) -> Result<(), AllocError> {
-    if let [tens, ones, _, text @ ..] = line {
+    if let [tens, ones, mark, text @ ..] = line {
         let place = whole(&[*tens, *ones], 2).unwrap_or(0) as usize;
         if place == 0 || place > lines.len() {
             lines.push(text)?;
+        } else if *mark == b'-' {
+            lines.remove(place - 1);
         } else {
             lines[place - 1] = text;
         }
@@ -27,7 +30,7 @@ fn put_line<'a>(lines: &mut Vec<&'a [u8]>, line: &'a [u8]) -> Result<(), AllocEr
 }
 
 /// The bytes of the lines.
-fn database(alloc: Global, lines: &[&[u8]]) -> Result<Vec<u8>, AllocError> {
+fn file(alloc: Global, lines: &[&[u8]]) -> Result<Vec<u8>, AllocError> {
     let mut bytes = Vec::new(alloc);
     for line in lines {
         for byte in *line {
@@ -38,14 +41,28 @@ fn database(alloc: Global, lines: &[&[u8]]) -> Result<Vec<u8>, AllocError> {
     Ok(bytes)
 }
 
-/// The bytes that a row's second part names.
-fn database_of(alloc: Global, named: &str) -> Result<Vec<u8>, AllocError> {
+/// The bytes of the file that a part of a row names.
+fn file_of(alloc: Global, named: &str) -> Result<Vec<u8>, AllocError> {
     let mut parts = named.split('|');
-    let mut all = lines(alloc, parts.next().unwrap_or(""))?;
+    let mut all = Vec::from_slice(alloc, lines(parts.next().unwrap_or("")))?;
     for line in parts {
         put_line(&mut all, line.as_bytes())?;
     }
-    database(alloc, all.as_slice())
+    file(alloc, all.as_slice())
+}
+
+/// The database, and the report or path where there is one.
+fn files_of(
+    alloc: Global,
+    database: &str,
+    report: Option<&str>,
+) -> Result<MemoryLibrary, AllocError> {
+    let mut files = MemoryLibrary::new(alloc);
+    files.add("DB", file_of(alloc, database)?.as_slice())?;
+    if let Some(report) = report {
+        files.add("R", file_of(alloc, report)?.as_slice())?;
+    }
+    Ok(files)
 }
 
 fn words_of(alloc: Global, written: &str) -> Result<Vec<String>, AllocError> {
@@ -81,20 +98,18 @@ fn parts_in(alloc: Global, text: &str, parts: &str) -> Result<String, AllocError
 fn answer(alloc: Global, row: &str) -> Result<String, AllocError> {
     let mut parts = row.split('~');
     let shown = parts.next().unwrap_or("");
-    let bytes = database_of(alloc, parts.next().unwrap_or(""))?;
+    let database = parts.next().unwrap_or("");
     let words = words_of(alloc, parts.next().unwrap_or(""))?;
-    let mut files = MemoryLibrary::new(alloc);
-    files.add("DB", bytes.as_slice())?;
+    let wanted = parts.next().unwrap_or("");
+    let mut files = files_of(alloc, database, parts.next())?;
     let mut out = MemorySink::new(alloc, 4096, 1 << 20)?;
     let status = run(alloc, words.as_slice(), &mut files, &mut out).number();
     let text = marked(alloc, out.written())?;
-    match parts.next() {
-        None => format!(in alloc; "{shown}: {status} {text}"),
-        Some(wanted) => {
-            let found = parts_in(alloc, text.as_str(), wanted)?;
-            format!(in alloc; "{shown}: {status} {found}")
-        }
+    if wanted.is_empty() {
+        return format!(in alloc; "{shown}: {status} {text}");
     }
+    let found = parts_in(alloc, text.as_str(), wanted)?;
+    format!(in alloc; "{shown}: {status} {found}")
 }
 
 fn main(rt: HostRuntime) -> io::Result<()> {

@@ -1,9 +1,7 @@
-//! The texts of databases by their names. Their numbers claim nothing about real alloys.
-
-use std::alloc::{AllocError, Global};
+//! The texts of databases, reports and paths by their names. Their numbers claim nothing about real alloys.
 
 /// Two phases of one element.
-const TWO_PHASES: [&[u8]; 8] = [
+static TWO_PHASES: [&[u8]; 8] = [
     b"ELEMENT VA VACUUM 0 0 0 !",
     b"ELEMENT A ALPHA 10 0 0 !",
     b"PHASE ALPHA % 1 1 !",
@@ -15,7 +13,7 @@ const TWO_PHASES: [&[u8]; 8] = [
 ];
 
 /// Two compounds of two elements.
-const TWO_COMPOUNDS: [&[u8]; 8] = [
+static TWO_COMPOUNDS: [&[u8]; 8] = [
     b"ELEMENT A ALPHA 10 0 0 !",
     b"ELEMENT B BETA 10 0 0 !",
     b"PHASE A2B % 2 2 1 !",
@@ -27,7 +25,7 @@ const TWO_COMPOUNDS: [&[u8]; 8] = [
 ];
 
 /// A solution of two elements.
-const SOLUTION: [&[u8]; 5] = [
+static SOLUTION: [&[u8]; 5] = [
     b"ELEMENT A ALPHA 10 0 0 !",
     b"ELEMENT B BETA 10 0 0 !",
     b"PHASE SOL % 1 1 !",
@@ -36,7 +34,7 @@ const SOLUTION: [&[u8]; 5] = [
 ];
 
 /// Eight elements without a phase.
-const EIGHT_ELEMENTS: [&[u8]; 8] = [
+static EIGHT_ELEMENTS: [&[u8]; 8] = [
     b"ELEMENT A X 1 0 0 !",
     b"ELEMENT B X 1 0 0 !",
     b"ELEMENT C X 1 0 0 !",
@@ -48,7 +46,7 @@ const EIGHT_ELEMENTS: [&[u8]; 8] = [
 ];
 
 /// Steel of iron, chromium and carbon, with magnetism.
-const STEEL: [&[u8]; 71] = [
+static STEEL: [&[u8]; 71] = [
     b"ELEMENT /- ELECTRON_GAS 0 0 0 !",
     b"ELEMENT VA VACUUM 0 0 0 !",
     b"ELEMENT C GRAPHITE 12.011 1054 5.74 !",
@@ -122,33 +120,200 @@ const STEEL: [&[u8]; 71] = [
     b"PARAMETER G(GRAPHITE,C;0) 298.15 +GC#; 6000 N !",
 ];
 
+/// An element that freezes at 1000 K.
+static MELT: [&[u8]; 7] = [
+    b"ELEMENT A ALPHA 10 0 0 !",
+    b"PHASE LIQUID:L % 1 1 !",
+    b"CONSTITUENT LIQUID:L :A: !",
+    b"PARAMETER G(LIQUID,A;0) 1 1000-1*T; 6000 N !",
+    b"PHASE SOLID % 1 1 !",
+    b"CONSTITUENT SOLID :A: !",
+    b"PARAMETER G(SOLID,A;0) 1 0; 6000 N !",
+];
+
+/// The report of the two compounds at 1000 K, of a mol of each element.
+static REPORT: [&[u8]; 19] = [
+    b"equilibrium 1",
+    b"temperature 100000",
+    b"lattice 10",
+    b"elements A B",
+    b"phases A2B AB2",
+    b"asked 10000000000 10000000000",
+    b"entries 2",
+    b"entry A2B 333333333 10 : 10",
+    b"entry AB2 333333333 10 : 10",
+    b"total 9999999990 9999999990",
+    b"energy -19999999980000000000",
+    b"tolerance 10",
+    b"gap 1999999997694825",
+    b"potentials -65542553599999 -65542553599999",
+    b"tree A2B",
+    b"L 0 0",
+    b"tree AB2",
+    b"L 0 0",
+    b"end",
+];
+
+/// A report of the solution at 1000 K, of half a mol of each element, with a certificate made by hand.
+static IDEAL: [&[u8]; 16] = [
+    b"equilibrium 1",
+    b"temperature 100000",
+    b"lattice 10",
+    b"elements A B",
+    b"phases SOL",
+    b"asked 5000000000 5000000000",
+    b"entries 1",
+    b"entry SOL 1000000000 5 5",
+    b"total 5000000000 5000000000",
+    b"energy -5763179164000000000",
+    b"tolerance 0",
+    b"gap 999999999938965",
+    b"potentials -32290206639718 -43262042498662",
+    b"tree SOL",
+    b"L 54100000000000",
+    b"end",
+];
+
+/// A report of 1 nmol of a liquid steel, below which its potentials lie far.
+static ENERGIES: [&[u8]; 26] = [
+    b"equilibrium 1",
+    b"temperature 127315",
+    b"lattice 100",
+    b"elements C CR FE",
+    b"phases LIQUID BCC_A2 FCC_A1 CEMENTITE M23C6 GRAPHITE",
+    b"asked 10 20 70",
+    b"entries 1",
+    b"entry LIQUID 1 10 20 70",
+    b"total 10 20 70",
+    b"energy -60846241281",
+    b"tolerance 0",
+    b"gap 1000000000000000000",
+    b"potentials -1152921504606846976 -1152921504606846976 -1152921504606846976",
+    b"tree LIQUID",
+    b"L 1152921504606846976",
+    b"tree BCC_A2",
+    b"L 1152921504606846976 0",
+    b"tree FCC_A1",
+    b"L 1152921504606846976 0",
+    b"tree CEMENTITE",
+    b"L 3458764513820540928 1152921504606846976",
+    b"tree M23C6",
+    b"L 23058430092136939520 3458764513820540928 6917529027641081856",
+    b"tree GRAPHITE",
+    b"L 1152921504606846976",
+    b"end",
+];
+
+/// A report of nothing, with a leaf over a box of BCC_A2 in which its Curie temperature crosses that of the report.
+static JOINT: [&[u8]; 19] = [
+    b"equilibrium 1",
+    b"temperature 104300",
+    b"lattice 10",
+    b"elements C CR FE",
+    b"phases BCC_A2",
+    b"asked 0 0 0",
+    b"entries 0",
+    b"total 0 0 0",
+    b"energy 0",
+    b"tolerance 0",
+    b"gap 0",
+    b"potentials -10000000000000 -624131255422321 -624131255422321",
+    b"tree BCC_A2",
+    b"S 0 5",
+    b"S 2 5",
+    b"L 663524917942845 118180987561574",
+    b"L 0 0",
+    b"L 624131255422321 0",
+    b"end",
+];
+
+/// The path of the melt from 1001.5 K, in steps of 1 K.
+static PATH: [&[u8]; 69] = [
+    b"path 1",
+    b"liquid LIQUID",
+    b"descent 100",
+    b"floor 99000",
+    b"stop 0",
+    b"step 1",
+    b"equilibrium 1",
+    b"temperature 100150",
+    b"lattice 10",
+    b"elements A",
+    b"phases LIQUID SOLID",
+    b"asked 10000000000",
+    b"entries 1",
+    b"entry LIQUID 1000000000 10",
+    b"total 10000000000",
+    b"energy -1500000000000000",
+    b"tolerance 0",
+    b"gap 99999999847413",
+    b"potentials -10485759999",
+    b"tree LIQUID",
+    b"L 0",
+    b"tree SOLID",
+    b"L 0",
+    b"end",
+    b"left 10000000000",
+    b"step 2",
+    b"equilibrium 1",
+    b"temperature 100050",
+    b"lattice 10",
+    b"elements A",
+    b"phases LIQUID SOLID",
+    b"asked 10000000000",
+    b"entries 1",
+    b"entry LIQUID 1000000000 10",
+    b"total 10000000000",
+    b"energy -500000000000000",
+    b"tolerance 0",
+    b"gap 99999999847413",
+    b"potentials -3932159999",
+    b"tree LIQUID",
+    b"L 0",
+    b"tree SOLID",
+    b"L 0",
+    b"end",
+    b"left 10000000000",
+    b"step 3",
+    b"equilibrium 1",
+    b"temperature 99950",
+    b"lattice 10",
+    b"elements A",
+    b"phases LIQUID SOLID",
+    b"asked 10000000000",
+    b"entries 1",
+    b"entry SOLID 1000000000 10",
+    b"total 10000000000",
+    b"energy 0",
+    b"tolerance 0",
+    b"gap 99999999847413",
+    b"potentials -655359999",
+    b"tree LIQUID",
+    b"L 0",
+    b"tree SOLID",
+    b"L 0",
+    b"end",
+    b"left 0",
+    b"finish no-liquid",
+    b"solids 10000000000",
+    b"remains 0",
+    b"lost 0",
+];
+
 /// The lines of the text of this name; none of another.
-pub fn lines(alloc: Global, name: &str) -> Result<Vec<&'static [u8]>, AllocError> {
-    let mut lines = Vec::new(alloc);
-    if name == "X1" {
-        for line in TWO_PHASES {
-            lines.push(line)?;
-        }
+pub fn lines(name: &str) -> &'static [&'static [u8]] {
+    match name {
+        "X1" => TWO_PHASES.as_slice(),
+        "X2" => SOLUTION.as_slice(),
+        "X3" => TWO_COMPOUNDS.as_slice(),
+        "E8" => EIGHT_ELEMENTS.as_slice(),
+        "STEEL" => STEEL.as_slice(),
+        "MELT" => MELT.as_slice(),
+        "REPORT" => REPORT.as_slice(),
+        "IDEAL" => IDEAL.as_slice(),
+        "ENERGIES" => ENERGIES.as_slice(),
+        "JOINT" => JOINT.as_slice(),
+        "PATH" => PATH.as_slice(),
+        _ => &[],
     }
-    if name == "X2" {
-        for line in SOLUTION {
-            lines.push(line)?;
-        }
-    }
-    if name == "E8" {
-        for line in EIGHT_ELEMENTS {
-            lines.push(line)?;
-        }
-    }
-    if name == "STEEL" {
-        for line in STEEL {
-            lines.push(line)?;
-        }
-    }
-    if name == "X3" {
-        for line in TWO_COMPOUNDS {
-            lines.push(line)?;
-        }
-    }
-    Ok(lines)
 }

@@ -6,4 +6,6 @@ mod disk;
 #[cfg(test)]
 mod outside;
 #[cfg(test)]
+mod paths;
+#[cfg(test)]
 mod runs;

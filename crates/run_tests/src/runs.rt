@@ -18,7 +18,7 @@ const REPORT: &str =
     "equilibrium 1\ntemperature 100000\nlattice 10\nelements A\nphases ALPHA BETA\nasked 10000000000\nentries 1\nentry BETA 1000000000 10\ntotal 10000000000\nenergy -1500000000000000000\ntolerance 0\ngap 999999999847413\npotentials -9836953599999\ntree ALPHA\nL 0\ntree BETA\nL 0\nend\n";
 
 /// The words of a line.
-fn words_of(alloc: Global, line: &str) -> Result<Vec<String>, AllocError> {
+pub fn words_of(alloc: Global, line: &str) -> Result<Vec<String>, AllocError> {
     let mut words = Vec::new(alloc);
     for word in line.split(' ') {
         words.push(String::from_str(alloc, word)?)?;

@@ -7,7 +7,7 @@ ghost use Rattle.solving_tests.specs.Compounds.{compound, of_two, reference_of};
 use cal_list::{Items, one};
 use cal_log::Logs;
 use cef_core::{Kind, Name, ParamAt, PhaseAt, System};
-use cef_phase::SumPhase;
+use cef_phase::models_of;
 use cef_report::Report;
 use eq_solve::{SolveFault, equilibrium};
 use std::alloc::{AllocError, Global};
@@ -118,24 +118,6 @@ pub(crate) fn unequal_ratios(alloc: Global) -> Result<System, AllocError>
     let second = compound(alloc, b"HI", 1, 1, 3, -40_000_000_000)?;
     let system = of_two(alloc, first, second, 1000)?;
     Ok(system)
-}
-
-/// The model of each phase, in order.
-fn models_of<'a>(
-    alloc: Global,
-    phases: &'a [PhaseAt],
-    logs: &'a Logs,
-) -> Result<Vec<SumPhase<'a>>, AllocError>
-    requires phases { All IsFine phases.now }
-    requires logs { 501001 ≤ logs.now }
-    ensures { IfOk result (λ models. map (λ model. model.phase.now) models.items ≡ phases.now) }
-{
-    let mut models = Vec::new(alloc);
-    'phases: for i in 0..phases.len() {
-        let model = SumPhase::build(alloc, &phases[i], logs)?;
-        models.push(model)?;
-    }
-    Ok(models)
 }
 
 /// The equilibrium of these amounts of A and B, in units of 1/10 nmol, with a gap of 1 J/mol.

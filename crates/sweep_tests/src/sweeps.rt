@@ -4,8 +4,9 @@ ghost use Rattle.std.specs.Prelude.{◌≡◌, ◌≤◌, ◌^◌, IfOk, map, un
 ghost use Rattle.sweep_tests.specs.Sweepable.{AreSweepable};
 
 use cal_log::Logs;
-use cef_core::{Node, PhaseAt, Site};
+use cef_core::{PhaseAt, Site};
 use cef_phase::SumPhase;
+use cef_tree::Node;
 use eq_sweep::{Swept, sweep};
 use sample_phases::{pair, single, vacant};
 use std::alloc::{AllocError, Global};

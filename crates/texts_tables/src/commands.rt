@@ -1,6 +1,6 @@
 //! Command lines.
 
-use cal_job::{Request, WordsFault, read_words};
+use cal_job::{Order, PathRequest, Request, WordsFault, read_words};
 use cal_scan::Name;
 use std::alloc::{AllocError, Global};
 
@@ -57,11 +57,29 @@ fn request_text(alloc: Global, request: &Request) -> Result<String, AllocError> 
     )
 }
 
-/// The request that the words of a row make.
-pub fn request(alloc: Global, row: &str) -> Result<String, AllocError> {
+fn path_text(alloc: Global, path: &PathRequest) -> Result<String, AllocError> {
+    let first = request_text(alloc, &path.request)?;
+    let liquid = String::from_utf8_lossy(alloc, path.liquid.bytes())?;
+    format!(in alloc;
+        "{first} path {} {} {} {liquid}",
+        path.descent, path.floor, path.stop
+    )
+}
+
+fn order_text(alloc: Global, order: &Order) -> Result<String, AllocError> {
+    match order {
+        Order::Equilibrium(request) => request_text(alloc, request),
+        Order::Scheil(path) => path_text(alloc, path),
+        Order::Check(check) => format!(in alloc; "check {} {}", check.database, check.report),
+        Order::Table(table) => format!(in alloc; "table {}", table.report),
+    }
+}
+
+/// What the words of a row ask for.
+pub fn order(alloc: Global, row: &str) -> Result<String, AllocError> {
     let words = words(alloc, row)?;
     match read_words(alloc, words.as_slice()) {
-        Ok(request) => request_text(alloc, &request),
+        Ok(order) => order_text(alloc, &order),
         Err(WordsFault::Usage) => format!(in alloc; "no command"),
         Err(WordsFault::Memory) => Err(AllocError),
     }

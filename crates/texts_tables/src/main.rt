@@ -1,5 +1,5 @@
 //! Reads rows of texts, and prints what each is read as: behind `line 08 `, the line of the fault of a report whose line 8 is
-//! the rest of the row, or 0 where it has none; behind `words `, the request of a command line. In a row `/` is a line feed, and
+//! the rest of the row, or 0 where it has none; behind `words `, what a command line asks for. In a row `/` is a line feed, and
 //! `~` is a carriage return.
 #![tactic(auto)]
 
@@ -16,7 +16,7 @@ fn answer(alloc: Global, row: &str) -> Result<String, AllocError> {
         let fault = reports::fault_line(alloc, line, text)?;
         return format!(in alloc; "{fault}");
     }
-    commands::request(alloc, row)
+    commands::order(alloc, row)
 }
 
 fn main(rt: HostRuntime) -> io::Result<()> {

@@ -2,7 +2,7 @@
 
 ghost use Rattle.std.specs.Prelude.{◌≡◌, true};
 
-use cal_scan::{Name, capped_value, names, parts, tokens, whole};
+use cal_scan::{Name, capped_value, names, parts_at, tokens, whole};
 use std::test::Fail;
 
 #[test]
@@ -27,7 +27,7 @@ fn a_text_is_cut_at_each_mark(rt: HostRuntime) -> Result<(), Fail> {
         (b"", 1, 0),
     ];
     for (text, part_count, token_count) in rows {
-        assert_eq!(rt; parts(rt.alloc(), text, b' ')?.len(), part_count);
+        assert_eq!(rt; parts_at(rt.alloc(), text, b' ')?.len(), part_count);
         assert_eq!(rt; tokens(rt.alloc(), text)?.len(), token_count);
     }
     Ok(())
@@ -35,7 +35,7 @@ fn a_text_is_cut_at_each_mark(rt: HostRuntime) -> Result<(), Fail> {
 
 #[test]
 fn many_names_are_read_in_their_order(rt: HostRuntime) -> Result<(), Fail> {
-    let words = parts(rt.alloc(), b"NI AL FE CR CO TI MN SI", b' ')?;
+    let words = parts_at(rt.alloc(), b"NI AL FE CR CO TI MN SI", b' ')?;
     assert!(rt; names(rt.alloc(), Some(7), words.as_slice())?.is_none());
     let found = names(rt.alloc(), Some(8), words.as_slice())?.ok_or("no names")?;
     let mut text = Vec::new(rt.alloc());

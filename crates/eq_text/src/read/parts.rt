@@ -1,8 +1,9 @@
 //! The parts of a report, on the way to the whole.
 
 use cal_list::Items;
-use cef_core::{Name, Tree};
+use cef_core::Name;
 use cef_report::Entry;
+use cef_tree::Tree;
 
 #[derive(Drop)]
 pub(crate) struct Bounds {

@@ -19,8 +19,9 @@ use crate::read::tree::trees;
 use cal_limits::{MOST_ELEMENTS, MOST_REPORT_BYTES};
 use cal_lines::{Place, TextFault};
 use cal_list::Items;
-use cef_core::{Name, Tree};
+use cef_core::Name;
 use cef_report::Report;
+use cef_tree::Tree;
 use std::alloc::Global;
 
 #[tactic(auto, unfolding(crate::specs::Parsing::closing_at, cal_lines::specs::Reading::both))]

@@ -14,7 +14,8 @@ use cal_limits::{MOST_COUNT, MOST_NUMBER};
 use cal_lines::{Place, TextFault, all_integers, natural_of, read_line};
 use cal_list::Items;
 use cal_scan::is_word;
-use cef_core::{Name, Node, Tree};
+use cef_core::Name;
+use cef_tree::{Node, Tree};
 use std::alloc::{AllocError, Global};
 
 fn split_made(place: &[u8], cut: &[u8]) -> Option<Node>

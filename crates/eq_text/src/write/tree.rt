@@ -7,7 +7,8 @@ ghost use Rattle.cal_scan.specs.Lines.{line};
 ghost use Rattle.cef_report.specs.Texts.{node_words, tree_lines};
 
 use crate::write::line::{put_count, put_numbers_line, put_word};
-use cef_core::{Name, Node, Tree};
+use cef_core::Name;
+use cef_tree::{Node, Tree};
 use std::alloc::{AllocError, Global};
 
 #[tactic(auto, unfolding(cal_scan::specs::Lines::line))]

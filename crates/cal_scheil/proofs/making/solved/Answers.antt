@@ -1,6 +1,6 @@
 use Rattle.std.proofs.Common.{All}
-use Rattle.cal_scheil.proofs.Fine.{are_fine}
+use Rattle.cef_phase.proofs.Fine.{are_fine}
 use Rattle.cal_scheil.proofs.making.solved.Goals as goal
 
-pub models_of-requires-clause-phases : goal.models_of-requires-clause-phases
-models_of-requires-clause-phases c = rw c.as_slice.ensures (are_fine c.args.system.now c.args.system.now.phases c.requires.system.phases)
+pub models_of-requires-clause-fine : goal.models_of-requires-clause-fine
+models_of-requires-clause-fine c = rw c.as_slice.ensures (are_fine c.args.system.now c.args.system.now.phases c.requires.system.phases)

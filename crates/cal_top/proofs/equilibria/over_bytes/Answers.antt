@@ -1,21 +1,19 @@
-use Rattle.std.proofs.Common.{◌≡◌, refl, rules, subst}
-use Rattle.std.specs.Prelude.{Err, Result}
-use Rattle.tdb_read.specs.declared.fault.DbFault.{DbFault}
-use Rattle.tdb_read.specs.declared.fault.DbFault.TheVariants.{Bad}
-use Rattle.tdb_read.specs.Database.{Database as Entries}
-use Rattle.tdb_read.specs.Folding.{Reads}
-use Rattle.cal_top.specs.Equilibria.{bad_database, database}
+use Rattle.std.proofs.Common.{◌≡◌, subst}
 use Rattle.cal_select.proofs.Valuing.{ranged_functions}
+use Rattle.cal_top.specs.declared.texts.Opened.{Opened}
+use Rattle.cal_top.specs.Texts.{database}
+use Rattle.cal_top.specs.Equilibria.{FromDatabase}
+use Rattle.cal_top.specs.Opening.{IsOpened}
+use Rattle.cal_top.proofs.Replying.{bad_over}
 use Rattle.cal_top.proofs.equilibria.over_bytes.Goals as goal
+
+pub returns-in-Refused : goal.returns-in-Refused
+returns-in-Refused c =
+    bad_over c.args.bytes.now (λ db. FromDatabase db c.args.request.now) c.in-Refused.reply (subst (λ (o : Opened). IsOpened c.args.bytes.now o) c.in-Refused.is c.in_ok-opened.ensures)
 
 pub over_database-requires-clause-functions : goal.over_database-requires-clause-functions
 over_database-requires-clause-functions c = rw (← c.db.view_is) (ranged_functions c.db.inside.functions.entries c.db.invariant.functions)
 
-pub returns-in_ok-reply-in-Ok : goal.returns-in_ok-reply-in-Ok
-returns-in_ok-reply-in-Ok c = database c.in-Ok.db c.in-Ok.ensures c.in_ok-reply-in-Ok.ensures
-
-pub returns-in_ok-text-in-Err-Bad : goal.returns-in_ok-text-in-Err-Bad
-returns-in_ok-text-in-Err-Bad c =
-    let whole : c.read-found.result ≡ Err (Bad c.in-Err-Bad.line c.in-Err-Bad.rule) = search (rules, c.in-Err-Bad.is, c.in-Err-Bad.field-0-is) in
-    let fault = subst (λ (r : Result Entries DbFault). Reads c.args.bytes.now r) whole c.read-found.ensures in
-    bad_database c.in-Err-Bad.line c.in-Err-Bad.rule fault refl c.in_ok-text-in-Err-Bad.ensures
+pub returns-in_ok-reply-in-Database : goal.returns-in_ok-reply-in-Database
+returns-in_ok-reply-in-Database c =
+    database c.in-Database.db (subst (λ (o : Opened). IsOpened c.args.bytes.now o) c.in-Database.is c.in_ok-opened.ensures) c.in_ok-reply-in-Database.ensures

@@ -4,8 +4,8 @@ use Rattle.std.proofs.lemmas.Int.{to_z-of_z}
 use Rattle.solving_tests.proofs.Fine.{phases_fine, asked_is}
 use Rattle.solving_tests.proofs.systems.report_of.Goals as goal
 
-pub models_of-requires-clause-phases : goal.models_of-requires-clause-phases
-models_of-requires-clause-phases c = rw c.as_slice.ensures (phases_fine c.args.system.now c.requires.system)
+pub models_of-requires-clause-fine : goal.models_of-requires-clause-fine
+models_of-requires-clause-fine c = rw c.as_slice.ensures (phases_fine c.args.system.now c.requires.system)
 
 pub equilibrium-requires-clause-asked : goal.equilibrium-requires-clause-asked
 equilibrium-requires-clause-asked c =

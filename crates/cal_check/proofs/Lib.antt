@@ -1,0 +1,13 @@
+pub mod Numbers
+pub mod Totals
+pub mod Judged
+pub mod Standing
+pub mod Lifting
+pub mod Placing
+pub mod Merging
+pub mod Near
+pub mod Modest
+pub mod Stepwise
+pub mod Gathered
+pub mod Concluding
+pub mod Spanning

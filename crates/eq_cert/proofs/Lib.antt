@@ -1,0 +1,17 @@
+pub mod Blanks
+pub mod Turned
+pub mod Scaled
+pub mod Sized
+pub mod Halves
+pub mod Picks
+pub mod Ready
+pub mod Voids
+pub mod Covering
+pub mod Above
+pub mod Walks
+pub mod Order
+pub mod Entered
+pub mod Lines
+pub mod Placed
+pub mod Certified
+pub mod Judging

@@ -1,5 +1,0 @@
-use Rattle.std.proofs.Common.{◌≡◌, map, take}
-use Rattle.solving_tests.proofs.systems.models_of.Given as goal
-
-abbrev pub invariant-phases : goal.invariant-phases
-invariant-phases l = map (λ model. model.phase.now) l.models.items ≡ take l.i l.phases
