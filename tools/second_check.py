@@ -10,6 +10,7 @@ no line with the program.
 
 import re
 import sys
+from math import prod
 
 from database import NAME, Database, Refused, System
 
@@ -70,8 +71,8 @@ class Lines:
         self.next(word)
         if word == "S" and len(rest) == 2:
             return self.at, "S", [self.number(w, 0, 65535) for w in rest]
-        if word == "L" and rest:
-            return self.at, "L", [self.number(w) for w in rest]
+        if word in ("L", "A") and rest:
+            return self.at, word, [self.number(w) for w in rest]
         if word == "E" and not rest:
             return self.at, "E", []
         raise self.fault()
@@ -187,16 +188,71 @@ def slope(phase, potentials, s, i):
     return 0 if component is None else potentials[component] * phase.ratios[s]
 
 
-def bound(phase, potentials, box, multipliers):
-    """2^16 times the lows, and of each sublattice its multiplier times N and the least of each site."""
-    found = 65536 * phase.lows(box)
+def sublattice_parts(phase, potentials, box, multipliers, rises):
+    """Of each sublattice its multiplier times N and the least of each site, whose slope is lessened by its rise."""
+    found, places = 0, iter(rises)
     for s, row in enumerate(box):
         heights = phase.mixing(s)
         found += multipliers[s] * phase.n
         for i, (low, high) in enumerate(row):
-            m = slope(phase, potentials, s, i) + multipliers[s]
+            m = slope(phase, potentials, s, i) + multipliers[s] - next(places)
             found += min(65536 * heights[k] - m * k for k in range(low, high + 1))
     return found
+
+
+def bound(phase, potentials, box, multipliers):
+    """2^16 times the lows, and the parts of the sublattices."""
+    rises = [0 for row in box for _ in row]
+    return 65536 * phase.lows(box) + sublattice_parts(phase, potentials, box, multipliers, rises)
+
+
+def signed_products(phase, parameter):
+    """The products of counts whose sum a parameter is: coefficients and sites, counted on over the sublattices; None where it is no such sum."""
+    _, array, order, weighted = parameter
+    starts = [sum(map(len, phase.sites[:s])) for s in range(len(array))]
+    lists = [[starts[s] + i for i in one] for s, one in enumerate(array)]
+    sites, several = sum(lists, []), [one for one in lists if len(one) > 1]
+    if weighted:
+        one = several[0]
+        return [(3, sites + [one[order]]), (phase.n, sites)] + [(-1, sites + [i]) for i in one]
+    if len(several) == 1 and len(several[0]) == 2 and order:
+        i, j = several[0]
+        return [(1, sites + [i]), (-1, sites + [j])] if order == 1 else None
+    return [(1, sites)]
+
+
+def minorant(phase, parameter, box):
+    """The affine minorant of a parameter on a box: a slope for each site and a constant, or None where it has none."""
+    products, micro = signed_products(phase, parameter), parameter[0]
+    if products is None:
+        return None
+    lows, highs = ([r[end] for row in box for r in row] for end in (0, 1))
+    slopes = [0] * len(lows)
+    if all(lows[i] == highs[i] for _, sites in products for i in sites):
+        return slopes, 65536 * phase.range_of(parameter, box)[0]
+    den = phase.n ** max(len(sites) for _, sites in products) * (3 if parameter[3] else 1)
+    corner = 0
+    for f, sites in products:
+        earlier = lows if micro * f >= 0 else highs
+        for j, i in enumerate(sites):
+            z = prod(earlier[p] for p in sites[:j]) * prod(lows[p] for p in sites[j + 1 :])
+            slopes[i] += 65536 * micro * f * z // den
+        corner += micro * f * prod(lows[p] for p in sites) // den
+    return slopes, 65536 * (corner - 1) - sum(a * k for a, k in zip(slopes, lows))
+
+
+def affine_bound(phase, potentials, box, multipliers):
+    """The same with minorants in place of the lows of the parameters that have one."""
+    rises = [0 for row in box for _ in row]
+    found = 65536 * phase.magnetic_low(box) if phase.magnetic else 0
+    for parameter in phase.parameters["G"]:
+        plane = minorant(phase, parameter, box)
+        if plane is None:
+            found += 65536 * phase.range_of(parameter, box)[0]
+        else:
+            rises = [a + b for a, b in zip(rises, plane[0])]
+            found += plane[1]
+    return found + sublattice_parts(phase, potentials, box, multipliers, rises)
 
 
 def parts(phase, box, place, at):
@@ -228,7 +284,7 @@ def judge_tree(phase, potentials, nodes):
             single = all(a == b for row in box for a, b in row)
             well = single and not any(k for row, sites in zip(counts, phase.sites) for k, c in zip(row, sites) if c is not None)
         elif len(numbers) == len(box) and all(abs(x) * phase.n <= 2**117 for x in numbers):
-            well = bound(phase, potentials, box, numbers) >= 0
+            well = (affine_bound if kind == "A" else bound)(phase, potentials, box, numbers) >= 0
         if not well:
             raise broken(line, "tree")
 

@@ -22,18 +22,19 @@ use cal_scan::Name;
 use cal_select::{SystemFault, system};
 use cef_core::System;
 use cef_phase::models_of;
-use cef_report::Report;
-use eq_solve::{SolveFault, equilibrium};
+use cef_report::{Entry, Report};
+use eq_solve::{SolveFault, Solved, equilibrium_from};
 use std::alloc::Global;
 use tdb_read::Db;
 use temp_fun::some_outcome;
 
-/// A step that was made, and what it makes of the account.
+/// A step that was made, what it makes of the account, and what the next one may start from.
 #[derive(Drop)]
 pub(crate) struct Made {
     pub(crate) report: Report,
     pub(crate) left: Items<i128>,
     pub(crate) account: Account,
+    pub(crate) near: Vec<Entry>,
 }
 
 /// Whether a phase of the system has this name.
@@ -76,19 +77,28 @@ fn solved(
     logs: &Logs,
     job: &PathJob,
     asked: &[i128],
-) -> Result<Report, StepFault>
+    starts: &[Entry],
+) -> Result<Solved, StepFault>
     requires system { IsSystem system.now }
     requires logs { HIGHEST_TEMPERATURE ≤ logs.now }
     requires asked { AreAsked system.now asked.now }
     requires gap_low { LEAST_GAP ≤ job.now.gap }
     requires gap_high { job.now.gap ≤ MOST_GAP }
-    ensures answers { IfOk result (λ report. IsEquilibrium system.now asked.now job.now.gap job.now.budget report) }
+    ensures answers { IfOk result (λ solved. IsEquilibrium system.now asked.now job.now.gap job.now.budget solved.report) }
     ensures fault { IfErr result (λ fault. IsUnsolved system.now asked.now job.now fault) }
 {
     let models = models_of(alloc, system.phases.as_slice(), logs)?;
-    let found = equilibrium(alloc, system, models.as_slice(), asked, job.gap, job.budget);
+    let found = equilibrium_from(
+        alloc,
+        system,
+        models.as_slice(),
+        starts,
+        asked,
+        job.gap,
+        job.budget,
+    );
     match found {
-        Ok(report) => Ok(report),
+        Ok(solved) => Ok(solved),
         Err(SolveFault::Infeasible(numbers)) => Err(StepFault::Infeasible(numbers)),
         Err(SolveFault::GapNotClosed(left)) => Err(StepFault::GapNotClosed(left)),
         Err(SolveFault::Memory) => Err(StepFault::Memory),
@@ -102,6 +112,7 @@ fn made_over(
     logs: &Logs,
     job: &PathJob,
     account: &Account,
+    starts: &[Entry],
 ) -> Result<Made, StepFault>
     requires system { IsSystem system.now }
     requires logs { HIGHEST_TEMPERATURE ≤ logs.now }
@@ -112,16 +123,17 @@ fn made_over(
     ensures fault { IfErr result (λ fault. IsUnsolved system.now (account_in_order account.now system.now.elements).remains job.now fault) }
 {
     let ordered = account_in_order(alloc, account, system.elements.as_slice())?;
-    let found = solved(alloc, system, logs, job, ordered.remains.as_slice());
+    let found = solved(alloc, system, logs, job, ordered.remains.as_slice(), starts);
     match found {
         Err(fault) => Err(fault),
-        Ok(report) => {
+        Ok(Solved { report, near }) => {
             let left = left_of(alloc, system, &report, &job.liquid)?;
             let after = account_after(alloc, ordered, report.totals.as_slice(), left.as_slice())?;
             Ok(Made {
                 report,
                 left,
                 account: after,
+                near,
             })
         }
     }
@@ -134,6 +146,7 @@ pub(crate) fn made_step(
     logs: &Logs,
     job: &PathJob,
     account: &Account,
+    starts: &[Entry],
 ) -> Result<Made, StepFault>
     requires logs { HIGHEST_TEMPERATURE ≤ logs.now }
     requires can { CanStep job.now account.now }
@@ -146,6 +159,6 @@ pub(crate) fn made_step(
     let found = system_of(alloc, db, logs, job);
     match found {
         Err(fault) => Err(fault),
-        Ok(system) => made_over(alloc, &system, logs, job, account),
+        Ok(system) => made_over(alloc, &system, logs, job, account, starts),
     }
 }

@@ -17,6 +17,7 @@ use crate::making::{Made, made_step};
 use crate::step::Stepped;
 use cal_log::Logs;
 use cef_path::Finish;
+use cef_report::Entry;
 use std::alloc::{AllocError, Global};
 use std::marker::Model;
 use tdb_read::Db;
@@ -31,6 +32,8 @@ pub struct Walk {
     account: Account,
     steps: u32,
     finish: Option<Finish>,
+    /// What the last equilibrium knew, for the next one to start from.
+    near: Vec<Entry>,
 }
 
 impl Model for Walk {
@@ -68,6 +71,7 @@ impl Walk {
             account,
             steps: 0,
             finish: None,
+            near: Vec::new(alloc),
         })
     }
 
@@ -109,7 +113,7 @@ impl Walk {
         ensures next { IfOk result (λ made. IsNext (job_of self.now) made.account made.left) }
         ensures fault { IfErr result (λ fault. IsStepFault db.now (job_of self.now) self.now.account fault) }
     {
-        made_step(alloc, db, logs, &self.job, &self.account)
+        made_step(alloc, db, logs, &self.job, &self.account, &self.near)
     }
 
     /// The next step: the equilibrium of what remains of the liquid, at the walk's temperature. A fault leaves the walk as it was.
@@ -129,6 +133,7 @@ impl Walk {
                     report,
                     left,
                     account,
+                    near,
                 },
             ) => {
                 let t = self.job.job.t;
@@ -137,6 +142,7 @@ impl Walk {
                 self.account = account;
                 self.steps += 1;
                 self.finish = finish;
+                self.near = near;
                 Ok(Stepped {
                     report,
                     left,

@@ -32,12 +32,12 @@ use Rattle.cef_term.specs.Bounds.{parameter_low, parameter_high}
 
 -- one more of the list
 
-sum_of-more : {A : Type 0} (f : A → ℤ) (xs : List A) (k : ℕ) (x : A) → slice_get xs k ≡ Some x → sum_of f (take (suc k) xs) ≡ sum_of f (take k xs) +ℤ f x
+pub sum_of-more : {A : Type 0} (f : A → ℤ) (xs : List A) (k : ℕ) (x : A) → slice_get xs k ≡ Some x → sum_of f (take (suc k) xs) ≡ sum_of f (take k xs) +ℤ f x
 sum_of-more f [] k x e = absurd cc
 sum_of-more f (y ∷ xs) zero x e = let same : y ≡ x = cc in rw same (omega (arith, ints))
 sum_of-more f (y ∷ xs) (suc k) x e = omega (arith, ints, sum_of-more f xs k x e)
 
-filter-kept : {A : Type 0} (p : A → Bool) (xs : List A) (k : ℕ) (x : A) → slice_get xs k ≡ Some x → p x ≡ true → filter p (take (suc k) xs) ≡ filter p (take k xs) ++ x ∷ []
+pub filter-kept : {A : Type 0} (p : A → Bool) (xs : List A) (k : ℕ) (x : A) → slice_get xs k ≡ Some x → p x ≡ true → filter p (take (suc k) xs) ≡ filter p (take k xs) ++ x ∷ []
 filter-kept p [] k x e h = absurd cc
 filter-kept p (y ∷ xs) zero x e h = let same : y ≡ x = cc in rw (same, h) refl
 filter-kept {A} p (y ∷ xs) (suc k) x e h = by (p y) refl (filter-kept p xs k x e h)
@@ -46,12 +46,12 @@ filter-kept {A} p (y ∷ xs) (suc k) x e h = by (p y) refl (filter-kept p xs k x
     by true f rest = rw f (ap (λ (zs : List A). y ∷ zs) rest)
     by false f rest = rw f rest
 
-filter-left : {A : Type 0} (p : A → Bool) (xs : List A) (k : ℕ) (x : A) → slice_get xs k ≡ Some x → p x ≡ false → filter p (take (suc k) xs) ≡ filter p (take k xs)
+pub filter-left : {A : Type 0} (p : A → Bool) (xs : List A) (k : ℕ) (x : A) → slice_get xs k ≡ Some x → p x ≡ false → filter p (take (suc k) xs) ≡ filter p (take k xs)
 filter-left p [] k x e h = absurd cc
 filter-left p (y ∷ xs) zero x e h = let same : y ≡ x = cc in rw (same, h) refl
 filter-left {A} p (y ∷ xs) (suc k) x e h = ap (λ (zs : List A). cond (p y) (y ∷ zs) zs) (filter-left p xs k x e h)
 
-all-more : {A : Type 0} (P : A → Type 0) (xs : List A) (x : A) → AllByRecursion P xs → P x → AllByRecursion P (xs ++ x ∷ [])
+pub all-more : {A : Type 0} (P : A → Type 0) (xs : List A) (x : A) → AllByRecursion P xs → P x → AllByRecursion P (xs ++ x ∷ [])
 all-more P [] x h p = (p, tt)
 all-more P (y ∷ xs) x h p = (h.0, all-more P xs x h.1 p)
 
@@ -97,7 +97,7 @@ values_are is_kind phase terms site h = by_each terms h.each ∙ ap (sum_of (λ 
     by_each [] each = refl
     by_each (t ∷ ts) each = rw (each.0, by_each ts each.1) refl
 
-all-at : {A : Type 0} (P : A → Type 0) (xs : List A) (k : ℕ) (x : A) → AllByRecursion P xs → slice_get xs k ≡ Some x → P x
+pub all-at : {A : Type 0} (P : A → Type 0) (xs : List A) (k : ℕ) (x : A) → AllByRecursion P xs → slice_get xs k ≡ Some x → P x
 all-at P [] k x h e = absurd cc
 all-at P (y ∷ xs) zero x h e = let same : y ≡ x = cc in subst P same h.0
 all-at P (y ∷ xs) (suc k) x h e = all-at P xs k x h.1 e
@@ -146,11 +146,11 @@ highs_are is_kind phase terms box h = by_each terms h.each ∙ ap (sum_of (λ p.
     by_each [] each = refl
     by_each (t ∷ ts) each = rw (each.0, by_each ts each.1) refl
 
-abbrev magnitude_sum : List ParamAt → ℕ
+abbrev pub magnitude_sum : List ParamAt → ℕ
 magnitude_sum [] = 0
 magnitude_sum (p ∷ ps) = unsigned_abs p.micro + magnitude_sum ps
 
-micros_are : (terms : List ParamTerm) → micros terms ≡ magnitude_sum (map (λ (t : ParamTerm). t.parameter.now) terms)
+pub micros_are : (terms : List ParamTerm) → micros terms ≡ magnitude_sum (map (λ (t : ParamTerm). t.parameter.now) terms)
 micros_are [] = refl
 micros_are (t ∷ terms) = omega (arith, micros_are terms)
 
@@ -214,14 +214,14 @@ magnetism_value phase (Some k) (Some m) site is =
 magnetism_value phase None (Some m) site is = absurd is
 magnetism_value phase (Some k) None site is = absurd is
 
-magnetism_lowest : (phase : PhaseAt) (k : Option MagneticAt) (magnetism : Option MagneticTerm) (box : List (List Range)) → IsMagnetism phase k magnetism → magnetism_low magnetism box ≡ magnetic_low_over phase box k
+pub magnetism_lowest : (phase : PhaseAt) (k : Option MagneticAt) (magnetism : Option MagneticTerm) (box : List (List Range)) → IsMagnetism phase k magnetism → magnetism_low magnetism box ≡ magnetic_low_over phase box k
 magnetism_lowest phase None None box is = refl
 magnetism_lowest phase (Some k) (Some m) box is =
     rw (is.phase_is, is.magnetic_is, lows_are is_curie phase m.curie.items box is.curie, highs_are is_curie phase m.curie.items box is.curie, lows_are is_moment phase m.moment.items box is.moments, highs_are is_moment phase m.moment.items box is.moments) refl
 magnetism_lowest phase None (Some m) box is = absurd is
 magnetism_lowest phase (Some k) None box is = absurd is
 
-magnetism_most : (phase : PhaseAt) (k : Option MagneticAt) (magnetism : Option MagneticTerm) → IsMagnetism phase k magnetism → most_magnetic magnetism ≡ magnetic_size phase.t phase.scale k
+pub magnetism_most : (phase : PhaseAt) (k : Option MagneticAt) (magnetism : Option MagneticTerm) → IsMagnetism phase k magnetism → most_magnetic magnetism ≡ magnetic_size phase.t phase.scale k
 magnetism_most phase None None is = refl
 magnetism_most phase (Some k) (Some m) is = rw is.phase_is refl
 magnetism_most phase None (Some m) is = absurd is
@@ -260,7 +260,7 @@ none_some : {A : Type 0} (a : A) → None ≡ Some a → ⊥
 none_some a e = cc
 
 -- the phase of the term
-magnet_phase : (phase : PhaseAt) (k : Option MagneticAt) (magnetism : Option MagneticTerm) (m : MagneticTerm) → IsMagnetism phase k magnetism → magnetism ≡ Some m → m.phase.now ≡ phase
+pub magnet_phase : (phase : PhaseAt) (k : Option MagneticAt) (magnetism : Option MagneticTerm) (m : MagneticTerm) → IsMagnetism phase k magnetism → magnetism ≡ Some m → m.phase.now ≡ phase
 magnet_phase phase k None m is e = absurd (none_some m e)
 magnet_phase phase None (Some n) m is e = absurd is
 magnet_phase phase (Some k) (Some n) m is e = subst (λ (o : MagneticTerm). o.phase.now ≡ phase) (some_one n m e) is.phase_is

@@ -35,7 +35,7 @@ sum-cons k counts = sum_by-cons (λ (x : ℕ). x) k counts
 
 -- ---- what amounts are worth
 
-worth-zero : (potentials : List ℤ) → worth potentials (λ c. pos 0) ≡ pos 0
+pub worth-zero : (potentials : List ℤ) → worth potentials (λ c. pos 0) ≡ pos 0
 worth-zero potentials = dot-zero (length potentials) (at potentials)
 
 worth-add : (potentials : List ℤ) (x y : ℕ → ℕ) → worth potentials (λ c. pos (x c + y c)) ≡ worth potentials (λ c. pos (x c)) +ℤ worth potentials (λ c. pos (y c))
@@ -51,7 +51,7 @@ worth-scale potentials k x =
 -- ---- one sublattice
 
 -- the sum of the heights of the sites of a row
-abbrev heights_of : (ℕ → ℤ) → List ℤ → List ℕ → ℤ
+abbrev pub heights_of : (ℕ → ℤ) → List ℤ → List ℕ → ℤ
 heights_of h (m ∷ slopes) (k ∷ counts) = height h m k +ℤ heights_of h slopes counts
 heights_of h [] counts = pos 0
 heights_of h (m ∷ slopes) [] = pos 0
@@ -72,16 +72,16 @@ sites_below h l (m ∷ slopes) (r ∷ row) (k ∷ counts) e w =
     omega (arith, ints, first, rest, share_apart m l k, *ℤ-+ℤ l (pos k) (pos (sum counts)), ap (λ (x : ℕ). l *ℤ pos x) (sum-cons k counts))
 
 -- the lows of a row are its highs
-abbrev IsSingleRow : List Range → Type 0
+abbrev pub IsSingleRow : List Range → Type 0
 IsSingleRow row = map (λ (r : Range). r.low) row ≡ map (λ (r : Range). r.high) row
 
-first_single : (a b : ℕ) (xs ys : List ℕ) → a ∷ xs ≡ b ∷ ys → a ≡ b
+pub first_single : (a b : ℕ) (xs ys : List ℕ) → a ∷ xs ≡ b ∷ ys → a ≡ b
 first_single a b xs ys e = cc
 
-rest_single : {X : Type 0} (a b : X) (xs ys : List X) → a ∷ xs ≡ b ∷ ys → xs ≡ ys
+pub rest_single : {X : Type 0} (a b : X) (xs ys : List X) → a ∷ xs ≡ b ∷ ys → xs ≡ ys
 rest_single a b xs ys e = cc
 
-first_row : (a b : List ℕ) (xs ys : List (List ℕ)) → a ∷ xs ≡ b ∷ ys → a ≡ b
+pub first_row : (a b : List ℕ) (xs ys : List (List ℕ)) → a ∷ xs ≡ b ∷ ys → a ≡ b
 first_row a b xs ys e = cc
 
 sites_same : (h : ℕ → ℤ) (l : ℤ) (slopes : List ℤ) (row : List Range) (counts : List ℕ) → length slopes ≡ length row → AllWithin row counts → IsSingleRow row →
@@ -98,11 +98,11 @@ sites_same h l (m ∷ slopes) (r ∷ row) (k ∷ counts) e w s =
     let rest = sites_same h l slopes row counts (omega arith) w.2 (rest_single _ _ _ _ s) in
     rw (none, here, rest) (omega (arith, ints, share_apart m l k, *ℤ-+ℤ l (pos k) (pos (sum counts)), ap (λ (x : ℕ). l *ℤ pos x) (sum-cons k counts)))
 
-row_below : (n : ℕ) (h : ℕ → ℤ) (slopes : List ℤ) (row : List Range) (l : ℤ) (counts : List ℕ) → length slopes ≡ length row → IsInRow n row counts →
+pub row_below : (n : ℕ) (h : ℕ → ℤ) (slopes : List ℤ) (row : List Range) (l : ℤ) (counts : List ℕ) → length slopes ≡ length row → IsInRow n row counts →
     row_part n h slopes row l ≤ℤ heights_of h slopes counts
 row_below n h slopes row l counts e m = omega (arith, ints, sites_below h l slopes row counts e m.within, ap (λ (x : ℕ). l *ℤ pos x) m.adds)
 
-row_same : (n : ℕ) (h : ℕ → ℤ) (slopes : List ℤ) (row : List Range) (l : ℤ) (counts : List ℕ) → length slopes ≡ length row → IsInRow n row counts → IsSingleRow row →
+pub row_same : (n : ℕ) (h : ℕ → ℤ) (slopes : List ℤ) (row : List Range) (l : ℤ) (counts : List ℕ) → length slopes ≡ length row → IsInRow n row counts → IsSingleRow row →
     row_part n h slopes row l ≡ heights_of h slopes counts
 row_same n h slopes row l counts e m s = omega (arith, ints, sites_same h l slopes row counts e m.within s, ap (λ (x : ℕ). l *ℤ pos x) m.adds)
 
@@ -118,7 +118,7 @@ heights_are potentials t n a (site ∷ sites) (k ∷ counts) e =
     let more : worth potentials (λ c. pos (k * weight_of c a site + content_of_counts c a sites counts)) ≡ worth potentials (λ c. pos (k * weight_of c a site)) +ℤ worth potentials (λ c. pos (content_of_counts c a sites counts)) = worth-add potentials (λ c. k * weight_of c a site) (λ c. content_of_counts c a sites counts) in
     omega (arith, ints, rest, one, more, *ℤ_comm (pos k) (worth potentials (λ c. pos (weight_of c a site))), *ℤ-+ℤ (pos 65536) (mixing_at t n a k) (mixing_of_counts t n a counts))
 
-length-within : (row : List Range) (counts : List ℕ) → AllWithin row counts → length counts ≡ length row
+pub length-within : (row : List Range) (counts : List ℕ) → AllWithin row counts → length counts ≡ length row
 length-within [] [] h = refl
 length-within [] (k ∷ counts) h = absurd h
 length-within (r ∷ row) [] h = absurd h
@@ -126,7 +126,7 @@ length-within (r ∷ row) (k ∷ counts) h = omega (arith, length-within row cou
 
 -- ---- all sublattices
 
-sum-front : (n : ℕ) (f : ℕ → ℤ) → sum_to (suc n) f ≡ f 0 +ℤ sum_to n (λ i. f (suc i))
+pub sum-front : (n : ℕ) (f : ℕ → ℤ) → sum_to (suc n) f ≡ f 0 +ℤ sum_to n (λ i. f (suc i))
 sum-front zero f = omega (arith, ints)
 sum-front (suc n) f = omega (arith, ints, sum-front n f)
 
@@ -141,10 +141,10 @@ parts_on t n potentials a ratios sites rest row box l =
     sum-front (length rest) (λ s. row_part n (mixing_at t n (slice_index (a ∷ ratios) s)) (slopes_of potentials (slice_index (a ∷ ratios) s) (slice_index_or (sites ∷ rest) s [])) (slice_index_or (row ∷ box) s []) (l s))
 
 -- 2^16 times the mixing of a list, less what its content is worth
-abbrev mixing_height : ℕ → ℕ → List ℤ → List ℕ → List (List (Option ℕ)) → List (List ℕ) → ℤ
+abbrev pub mixing_height : ℕ → ℕ → List ℤ → List ℕ → List (List (Option ℕ)) → List (List ℕ) → ℤ
 mixing_height t n potentials ratios sites site = pos 65536 *ℤ mixing_over t n ratios site -ℤ worth potentials (λ c. pos (content_over c ratios sites site))
 
-height_on : (t n : ℕ) (potentials : List ℤ) (a : ℕ) (ratios : List ℕ) (sites : List (Option ℕ)) (rest : List (List (Option ℕ))) (counts : List ℕ) (site : List (List ℕ)) → length counts ≡ length sites →
+pub height_on : (t n : ℕ) (potentials : List ℤ) (a : ℕ) (ratios : List ℕ) (sites : List (Option ℕ)) (rest : List (List (Option ℕ))) (counts : List ℕ) (site : List (List ℕ)) → length counts ≡ length sites →
     mixing_height t n potentials (a ∷ ratios) (sites ∷ rest) (counts ∷ site) ≡ heights_of (mixing_at t n a) (slopes_of potentials a sites) counts +ℤ mixing_height t n potentials ratios rest site
 height_on t n potentials a ratios sites rest counts site e =
     let here = heights_are potentials t n a sites counts e in
@@ -184,10 +184,10 @@ rows_same t n potentials (a ∷ ratios) (sites ∷ rest) (row ∷ box) l (counts
 -- ---- the lows
 
 -- what is in the energy beside mixing
-abbrev terms_energy : PhaseAt → List (List ℕ) → ℤ
+abbrev pub terms_energy : PhaseAt → List (List ℕ) → ℤ
 terms_energy phase site = sum_of_kind is_energy phase site +ℤ magnetic_energy phase site phase.magnetic
 
-energy_apart : (phase : PhaseAt) (site : List (List ℕ)) → energy phase site ≡ terms_energy phase site +ℤ mixing_over phase.t phase.lattice phase.ratios site
+pub energy_apart : (phase : PhaseAt) (site : List (List ℕ)) → energy phase site ≡ terms_energy phase site +ℤ mixing_over phase.t phase.lattice phase.ratios site
 unfolding energy
 energy_apart phase site = omega (arith, ints)
 
@@ -229,7 +229,7 @@ kind_same : (is_kind : Kind → Bool) (phase : PhaseAt) (terms : List ParamTerm)
 kind_same is_kind phase terms box site h fits m s = rw h.all at (terms_same phase terms box site h.each fits m s)
 
 -- magnetism
-magnetism_below : (phase : PhaseAt) (box : List (List Range)) (site : List (List ℕ)) (m : Option MagneticAt) → IsPhase phase → IsMagnetic m →
+pub magnetism_below : (phase : PhaseAt) (box : List (List Range)) (site : List (List ℕ)) (m : Option MagneticAt) → IsPhase phase → IsMagnetic m →
     ((k : MagneticAt) → m ≡ Some k → IsBetween (low_of_kind is_curie phase box) (sum_of_kind is_curie phase site) (high_of_kind is_curie phase box)) →
     ((k : MagneticAt) → m ≡ Some k → IsBetween (low_of_kind is_moment phase box) (sum_of_kind is_moment phase site) (high_of_kind is_moment phase box)) →
     magnetic_low_over phase box m ≤ℤ magnetic_energy phase site m
@@ -239,7 +239,7 @@ magnetism_below phase box site (Some m) keeps is curie moment =
     let y = moment m refl in
     (magnetic_between phase.t phase.scale m.factor m.p4 (low_of_kind is_curie phase box) (sum_of_kind is_curie phase site) (high_of_kind is_curie phase box) (low_of_kind is_moment phase box) (sum_of_kind is_moment phase site) (high_of_kind is_moment phase box) (omega (arith, keeps.coldest)) is.0 (omega (arith, is.2)) x.below x.above y.below y.above).below
 
-magnetism_same : (phase : PhaseAt) (box : List (List Range)) (site : List (List ℕ)) (m : Option MagneticAt) →
+pub magnetism_same : (phase : PhaseAt) (box : List (List Range)) (site : List (List ℕ)) (m : Option MagneticAt) →
     ((k : MagneticAt) → m ≡ Some k → AreOne (low_of_kind is_curie phase box) (sum_of_kind is_curie phase site) (high_of_kind is_curie phase box)) →
     ((k : MagneticAt) → m ≡ Some k → AreOne (low_of_kind is_moment phase box) (sum_of_kind is_moment phase site) (high_of_kind is_moment phase box)) →
     magnetic_low_over phase box m ≡ magnetic_energy phase site m
@@ -267,7 +267,7 @@ lows_same phase terms curie moments box site h fits m s =
 
 -- ---- the laws
 
-content_is : (phase : PhaseAt) (potentials : List ℤ) (site : List (List ℕ)) → worth potentials (content phase site) ≡ worth potentials (λ c. pos (content_over c phase.ratios phase.sites site))
+pub content_is : (phase : PhaseAt) (potentials : List ℤ) (site : List (List ℕ)) → worth potentials (content phase site) ≡ worth potentials (λ c. pos (content_over c phase.ratios phase.sites site))
 unfolding content
 content_is phase potentials site = refl
 

@@ -3,10 +3,15 @@ pub mod Adding
 pub mod Least
 pub mod Parts
 pub mod Slopes
+pub mod Lowering
 pub mod Rows
 pub mod Choice
 pub mod Secants
 pub mod Betters
 pub mod Walking
+pub mod Totals
 pub mod Bounding
+pub mod Minorants
+pub mod Alone
+pub mod Raising
 pub mod Fine

@@ -58,15 +58,15 @@ pub secant_of_rise : (h : ℕ → ℤ) (m rise chord x : ℤ) (low high : ℕ) �
     x ≡ secant h m (record { low = low; high = high })
 secant_of_rise h m rise chord x low high lt er ec ex = secant_exact h m (h high) (h low) rise chord x low high lt refl refl er ec ex
 
-pub secant_room : (m chord x : ℤ) (n : ℕ) → n ≤ 1000 → x ≡ chord -ℤ m → unsigned_abs chord ≤ 2 ^ 72 → unsigned_abs m * n ≤ 2 ^ 116 → unsigned_abs x * n ≤ 2 ^ 117
+pub secant_room : (m chord x : ℤ) (n : ℕ) → n ≤ 1000 → x ≡ chord -ℤ m → unsigned_abs chord ≤ 2 ^ 72 → unsigned_abs m * n ≤ 2 ^ 116 + 2 ^ 86 → unsigned_abs x * n ≤ 2 ^ 117
 secant_room m chord x n few ex hc hm =
     let both : unsigned_abs x ≤ 2 ^ 72 + unsigned_abs m = omega (arith, ints, hc, ap unsigned_abs ex) in
     let times : unsigned_abs x * n ≤ (2 ^ 72 + unsigned_abs m) * n = mul-le (unsigned_abs x) n (2 ^ 72 + unsigned_abs m) n both (omega arith) in
     omega (arith, times, hm, few)
 
-pub secant_fits : (row : Row) (m chord : ℤ) → CanRow (2 ^ 117) row → unsigned_abs chord ≤ 2 ^ 72 → unsigned_abs m * row.mix.now.lattice ≤ 2 ^ 116 → FitsSigned w128 (chord -ℤ m)
+pub secant_fits : (row : Row) (m chord : ℤ) → CanRow (2 ^ 118) row → unsigned_abs chord ≤ 2 ^ 72 → unsigned_abs m * row.mix.now.lattice ≤ 2 ^ 116 + 2 ^ 86 → FitsSigned w128 (chord -ℤ m)
 secant_fits row m chord can hc hm =
-    let alone : unsigned_abs m ≤ 2 ^ 116 = omega (arith, hm, mul-le (unsigned_abs m) 1 (unsigned_abs m) row.mix.now.lattice (omega arith) can.mixable.some) in
+    let alone : unsigned_abs m ≤ 2 ^ 116 + 2 ^ 86 = omega (arith, hm, mul-le (unsigned_abs m) 1 (unsigned_abs m) row.mix.now.lattice (omega arith) can.mixable.some) in
     omega (arith, ints, hc, alone)
 
 pub ruleset sloping = (secant_of_rise, secant_room, secant_fits, row_order, row_within, to_z-of_z)

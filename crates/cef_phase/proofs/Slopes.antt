@@ -9,8 +9,7 @@ use Rattle.cal_math.specs.Vectors.{at}
 use Rattle.cal_math.proofs.Vectors.{dot_one, dot-zero}
 use Rattle.cef_core.specs.Constitutions.{weight_of}
 use Rattle.cef_phase.specs.Bounds.{slope_of, slopes_of, IsOneOf}
-use Rattle.cef_phase.specs.declared.row.Row.{Row}
-use Rattle.cef_phase.specs.Walks.{AreSmall, AreSlopes, slopes_at}
+use Rattle.cef_phase.specs.Walks.{AreSmall, AreSlopes}
 
 pub share_size : (a : ℤ) (n : ℕ) → unsigned_abs a * n ≤ 2 ^ 117 → unsigned_abs (a *ℤ pos n) ≤ 2 ^ 117
 share_size a n h = rw (unsigned_abs-mul a (pos n)) h
@@ -58,23 +57,15 @@ length-slopes_of potentials ratio (site ∷ sites) = omega (arith, length-slopes
 
 -- ---- the slope of a site of a row
 
-pub slope_in : (potentials : List ℤ) (ratio : ℕ) (sites : List (Option ℕ)) (k : ℕ) (x : ℤ) (d : Option ℕ) → k < length sites → x ≡ slope_of potentials ratio (get_or sites k d) → x ≡ at (slopes_of potentials ratio sites) k
-slope_in potentials ratio [] k x d lt is = absurd (omega arith)
-slope_in potentials ratio (s ∷ sites) zero x d lt is = is
-slope_in potentials ratio (s ∷ sites) (suc k) x d lt is = slope_in potentials ratio sites k x d (omega arith) is
-
-pub component_in_place : (n : ℕ) (sites : List (Option ℕ)) (k : ℕ) (d : Option ℕ) → AllByRecursion (IsOneOf n) sites → k < length sites → IsOneOf n (get_or sites k d)
-component_in_place n [] k d h lt = absurd (omega arith)
-component_in_place n (s ∷ sites) zero d h lt = h.0
-component_in_place n (s ∷ sites) (suc k) d h lt = component_in_place n sites k d h.1 (omega arith)
-
-pub row_slopes : (row : Row) (site : ℕ) → site < length row.sites.now → site < length (slopes_at row)
-row_slopes row site lt = omega (arith, length-slopes_of row.potentials.now row.ratio row.sites.now)
+pub slope_in : (slopes : List ℤ) (k : ℕ) (x d : ℤ) → k < length slopes → x ≡ get_or slopes k d → x ≡ at slopes k
+slope_in [] k x d lt is = absurd (omega arith)
+slope_in (m ∷ slopes) zero x d lt is = is
+slope_in (m ∷ slopes) (suc k) x d lt is = slope_in slopes k x d (omega arith) is
 
 pub slope_small : (n limit : ℕ) (slopes : List ℤ) (k : ℕ) (x : ℤ) → k < length slopes → x ≡ at slopes k → AreSlopes n limit slopes → unsigned_abs x * n ≤ limit
 slope_small n limit slopes k x lt e h = rw e (all-at (λ m. unsigned_abs m * n ≤ limit) slopes k h lt)
 
-pub ruleset placing = (slope_in, component_in_place, to_z-of_z)
+pub ruleset placing = (slope_in, slope_small, to_z-of_z)
 
 -- ---- how large slopes are
 

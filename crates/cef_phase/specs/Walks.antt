@@ -1,21 +1,24 @@
 -- Workings: what a walk over the sublattices of a phase rests on.
-use Rattle.std.specs.Prelude.{◌≡◌, ℕ, zero, suc, ◌+◌, ◌*◌, ◌^◌, ◌<◌, ◌≤◌, List, [], ◌∷◌, drop, length, slice_index, unsigned_abs, ℤ, pos, ◌+ℤ◌, ◌-ℤ◌, ◌*ℤ◌, ◌≤ℤ◌, ◌<ℤ◌, ◌⊎◌}
+use Rattle.std.specs.Prelude.{◌≡◌, ℕ, ◌+◌, ◌*◌, ◌^◌, ◌<◌, ◌≤◌, ◌⊎◌, ℤ, pos, ◌+ℤ◌, ◌-ℤ◌, ◌*ℤ◌, ◌≤ℤ◌, ◌<ℤ◌, unsigned_abs}
+use Rattle.std.specs.Prelude.{List, [], ◌∷◌, ◌++◌, Option, take, drop, length, slice_index, slice_index_or}
 use Rattle.std.specs.List.{AllByRecursion}
 use Rattle.cef_core.specs.declared.phase.PhaseAt.{PhaseAt}
 use Rattle.cef_core.specs.Mixing.{mixing_at}
+use Rattle.cef_core.specs.Shapes.{places}
 use Rattle.cef_box.specs.declared.range.Range.{Range}
 use Rattle.cef_box.specs.Boxes.{IsRange}
 use Rattle.cef_box.specs.Flat.{ranges}
 use Rattle.cef_box.specs.Terms.{FitsBox, shape_of_phase}
-use Rattle.cal_math.specs.Vectors.{at}
+use Rattle.cal_math.specs.Vectors.{at, sum_to}
 use Rattle.cef_mix.specs.declared.least.Least.{Least}
 use Rattle.cef_mix.specs.Mixes.{Mixing, IsLeastOn}
 use Rattle.cef_phase.specs.declared.row.Row.{Row}
 use Rattle.cef_phase.specs.declared.choose.Best.{Best}
 use Rattle.cef_phase.specs.declared.choose.Between.{Between}
 use Rattle.cef_phase.specs.declared.part.Part.{Part}
-use Rattle.cef_phase.specs.Bounds.{row_part, slopes_of, IsOneOf, IsPlane}
-use Rattle.cef_phase.specs.Choosing.{secant, secants}
+use Rattle.cef_phase.specs.Bounds.{row_part, slopes_of, mixing_in, slopes_in, row_in}
+use Rattle.cef_phase.specs.Affine.{lowered, sites_to}
+use Rattle.cef_phase.specs.Choosing.{secant, secants, IsFirstGreatest}
 use Rattle.cef_phase.specs.Firsts.{IsBest}
 use Rattle.cef_phase.specs.Sums.{IsMixable, IsMixed}
 
@@ -27,22 +30,19 @@ mixed_at mix s = mixing_at mix.t mix.lattice (slice_index mix.ratios s)
 abbrev pub AreSlopes : ℕ → ℕ → List ℤ → Type 0
 AreSlopes n limit slopes = AllByRecursion (λ m. unsigned_abs m * n ≤ limit) slopes
 
--- what a row of a walk has: the energy of mixing of its sites, their slopes, their ranges
+-- what a row of a walk has: the energy of mixing of its sites, and their ranges
 abbrev pub mixing_of : Row → ℕ → ℤ
 mixing_of row = mixed_at row.mix.now row.place
-
-abbrev pub slopes_at : Row → List ℤ
-slopes_at row = slopes_of row.potentials.now row.ratio row.sites.now
 
 abbrev pub ranges_at : Row → List Range
 ranges_at row = ranges row.low.now row.high.now
 
 -- its part under a multiplier, and the candidates for the chosen one
 abbrev pub part_at : Row → ℤ → ℤ
-part_at row = row_part row.mix.now.lattice (mixing_of row) (slopes_at row) (ranges_at row)
+part_at row = row_part row.mix.now.lattice (mixing_of row) row.slopes.now (ranges_at row)
 
 abbrev pub all_secants : Row → List ℤ
-all_secants row = secants (mixing_of row) (slopes_at row) (ranges_at row)
+all_secants row = secants (mixing_of row) row.slopes.now (ranges_at row)
 
 abbrev pub candidates_at : Row → List ℤ
 candidates_at row = pos 0 ∷ all_secants row
@@ -52,21 +52,21 @@ abbrev pub range_of : Row → ℕ → Range
 range_of row site = record { low = slice_index row.low.now site; high = slice_index row.high.now site }
 
 abbrev pub secant_of : Row → ℕ → ℤ
-secant_of row site = secant (mixing_of row) (at (slopes_at row) site) (range_of row site)
+secant_of row site = secant (mixing_of row) (at row.slopes.now site) (range_of row site)
 
 abbrev pub secants_of : Row → ℕ → List ℤ
-secants_of row site = secants (mixing_of row) (at (slopes_at row) site ∷ []) (range_of row site ∷ [])
+secants_of row site = secants (mixing_of row) (at row.slopes.now site ∷ []) (range_of row site ∷ [])
 
 -- a site whose secant is the first
 pub record IsFirstOpen (row : Row) (site : ℕ) : Type 0 where
-  pub there : site < length row.sites.now
+  pub there : site < length row.slopes.now
   pub wide : (range_of row site).low < (range_of row site).high
-  pub first : all_secants row ≡ secant_of row site ∷ secants (mixing_of row) (drop (site + 1) (slopes_at row)) (drop (site + 1) (ranges_at row))
+  pub first : all_secants row ≡ secant_of row site ∷ secants (mixing_of row) (drop (site + 1) row.slopes.now) (drop (site + 1) (ranges_at row))
 
 -- the least of a site's height less the multiplier's share, over its range
 abbrev pub IsSiteLeast : Row → ℕ → ℤ → Least → Type 0
 IsSiteLeast row site l least =
-    IsLeastOn (mixing_of row) (at (slopes_at row) site +ℤ l) (slice_index row.low.now site) (slice_index row.high.now site) least.place least.height
+    IsLeastOn (mixing_of row) (at row.slopes.now site +ℤ l) (slice_index row.low.now site) (slice_index row.high.now site) least.place least.height
 
 -- the best multiplier so far, with where a better one may lie
 abbrev pub IsBestOf : Row → Best → Type 0
@@ -104,23 +104,77 @@ AreSmall ratio potentials = AllByRecursion (λ m. unsigned_abs m * ratio ≤ 2 ^
 pub record CanRow (limit : ℕ) (row : Row) : Type 0 where
   pub mixable : IsMixable row.mix.now
   pub place : row.place < length row.mix.now.ratios
-  pub components : AllByRecursion (IsOneOf (length row.potentials.now)) row.sites.now
-  pub small : AreSmall row.ratio row.potentials.now
-  pub slopes : AreSlopes row.mix.now.lattice limit (slopes_at row)
-  pub few : length row.sites.now ≤ 90
-  pub lows : length row.sites.now ≤ length row.low.now
-  pub highs : length row.sites.now ≤ length row.high.now
-  pub each : length (ranges_at row) ≡ length row.sites.now
+  pub slopes : AreSlopes row.mix.now.lattice limit row.slopes.now
+  pub few : length row.slopes.now ≤ 90
+  pub lows : length row.slopes.now ≤ length row.low.now
+  pub highs : length row.slopes.now ≤ length row.high.now
+  pub each : length (ranges_at row) ≡ length row.slopes.now
   pub within : AllByRecursion (IsRange row.mix.now.lattice) (ranges_at row)
 
--- how many sites the first sublattices have
-abbrev pub sites_to : {X : Type 0} → ℕ → List (List X) → ℕ
-sites_to zero rows = 0
-sites_to (suc count) [] = 0
-sites_to (suc count) (row ∷ rows) = length row + sites_to count rows
+-- ---- the slopes of all sites of a phase in one list
 
--- a box and potentials of a phase, with the tables of its mixing
-pub record CanWalk (limit : ℕ) (phase : PhaseAt) (mix : Mixing) (box : List (List Range)) (potentials : List ℤ) : Type 0 where
+-- those of sublattice s, and how many sites it has
+abbrev pub sites_at : PhaseAt → ℕ → List (Option ℕ)
+sites_at phase s = slice_index_or phase.sites s []
+
+abbrev pub slopes_among : PhaseAt → List ℤ → ℕ → List ℤ
+slopes_among phase slopes s = take (length (sites_at phase s)) (drop (sites_to s phase.sites) slopes)
+
+-- the part of sublattice s with these slopes, and the candidates for its multiplier
+abbrev pub part_among : PhaseAt → List ℤ → List (List Range) → ℕ → ℤ → ℤ
+part_among phase slopes box s = row_part phase.lattice (mixing_in phase s) (slopes_among phase slopes s) (row_in box s)
+
+abbrev pub candidates_among : PhaseAt → List ℤ → List (List Range) → ℕ → List ℤ
+candidates_among phase slopes box s =
+    pos 0 ∷ secants (mixing_in phase s) (slopes_among phase slopes s) (row_in box s)
+
+-- a multiplier that is chosen for sublattice s
+abbrev pub IsChosenAmong : PhaseAt → List ℤ → List (List Range) → ℕ → ℤ → Type 0
+IsChosenAmong phase slopes box s l =
+    IsFirstGreatest (part_among phase slopes box s) (candidates_among phase slopes box s) l
+
+-- tables, a box and slopes of a phase
+pub record CanWalk (limit : ℕ) (phase : PhaseAt) (mix : Mixing) (box : List (List Range)) (slopes : List ℤ) : Type 0 where
   pub mixed : IsMixed phase mix
   pub fits : FitsBox (shape_of_phase phase) box
-  pub plane : IsPlane limit phase potentials
+  pub each : length slopes ≡ places phase.sites
+  pub small : AreSlopes phase.lattice limit slopes
+
+-- ---- the slopes of a plane less others
+
+-- numbers less others
+abbrev pub less : List ℤ → List ℤ → List ℤ
+less [] others = []
+less (m ∷ slopes) [] = []
+less (m ∷ slopes) (a ∷ others) = (m -ℤ a) ∷ less slopes others
+
+-- the slopes of the plane of the potentials at the sites of all sublattices
+abbrev pub slopes_over : List ℤ → List ℕ → List (List (Option ℕ)) → List ℤ
+slopes_over potentials [] rows = []
+slopes_over potentials (ratio ∷ ratios) [] = []
+slopes_over potentials (ratio ∷ ratios) (row ∷ rows) = slopes_of potentials ratio row ++ slopes_over potentials ratios rows
+
+-- slopes that leave those of a plane their room
+abbrev pub AreRises : List ℤ → Type 0
+AreRises rises = AllByRecursion (λ a. unsigned_abs a ≤ 2 ^ 75) rises
+
+-- the slopes of sublattice s less others, its part with them, the candidates for its multiplier, and the first parts together
+abbrev pub lowered_in : (ℕ → ℤ) → PhaseAt → List ℤ → ℕ → List ℤ
+lowered_in rise phase potentials s = lowered rise (sites_to s phase.sites) (slopes_in phase potentials s)
+
+abbrev pub lowered_part : (ℕ → ℤ) → PhaseAt → List ℤ → List (List Range) → ℕ → ℤ → ℤ
+lowered_part rise phase potentials box s =
+    row_part phase.lattice (mixing_in phase s) (lowered_in rise phase potentials s) (row_in box s)
+
+abbrev pub lowered_candidates : (ℕ → ℤ) → PhaseAt → List ℤ → List (List Range) → ℕ → List ℤ
+lowered_candidates rise phase potentials box s =
+    pos 0 ∷ secants (mixing_in phase s) (lowered_in rise phase potentials s) (row_in box s)
+
+abbrev pub lowered_parts : (ℕ → ℤ) → PhaseAt → List ℤ → List (List Range) → ℕ → List ℤ → ℤ
+lowered_parts rise phase potentials box count multipliers =
+    sum_to count (λ s. lowered_part rise phase potentials box s (at multipliers s))
+
+-- a multiplier that is chosen for sublattice s
+abbrev pub IsChosenLowered : (ℕ → ℤ) → PhaseAt → List ℤ → List (List Range) → ℕ → ℤ → Type 0
+IsChosenLowered rise phase potentials box s l =
+    IsFirstGreatest (lowered_part rise phase potentials box s) (lowered_candidates rise phase potentials box s) l

@@ -1,11 +1,11 @@
 //! The multiplier that is chosen for a sublattice.
 
-ghost use Rattle.std.specs.Prelude.{◌≡◌, ℕ, ◌≤◌, ◌<◌, ◌^◌, ◌∷◌, [], Some, None, length, ℤ, pos, ◌*ℤ◌, ◌≤ℤ◌, ◌<ℤ◌, unsigned_abs};
+ghost use Rattle.std.specs.Prelude.{◌≡◌, ℕ, ◌+◌, ◌≤◌, ◌<◌, ◌^◌, ◌∷◌, [], Some, None, length, ℤ, pos, ◌*ℤ◌, ◌≤ℤ◌, ◌<ℤ◌, unsigned_abs};
 ghost use Rattle.std.specs.Bool.{OnTrue};
 ghost use Rattle.std.specs.Int.{int_div_euclid};
 ghost use Rattle.cef_phase.specs.Choosing.{IsFirstGreatest};
 ghost use Rattle.cef_phase.specs.Firsts.{first_greatest};
-ghost use Rattle.cef_phase.specs.Walks.{CanRow, AreSlopes, FitsRow, IsFirstOpen, slopes_at, range_of, part_at};
+ghost use Rattle.cef_phase.specs.Walks.{CanRow, AreSlopes, FitsRow, IsFirstOpen, range_of, part_at};
 ghost use Rattle.cef_phase.specs.Walks.{secant_of, secants_of, all_secants, candidates_at};
 ghost use Rattle.cef_phase.specs.Walks.{IsBestOf, IsInside, IsOutside, IsHigher, IsLower};
 
@@ -53,9 +53,9 @@ fn chord(rise: i64, width: u16) -> i128
 /// How a site's height changes over its range for each count, rounded down.
 #[tactic(auto, using(crate::proofs::Secants::sloping))]
 fn secant(row: &Row<'_>, site: usize) -> i128
-    requires row { CanRow (2 ^ 117) row.now }
-    requires slopes { AreSlopes row.now.mix.now.lattice (2 ^ 116) (slopes_at row.now) }
-    requires site { site < length row.now.sites.now }
+    requires row { CanRow (2 ^ 118) row.now }
+    requires slopes { AreSlopes row.now.mix.now.lattice (2 ^ 116 + 2 ^ 86) row.now.slopes.now }
+    requires site { site < length row.now.slopes.now }
     requires order { (range_of row.now site).low < (range_of row.now site).high }
     ensures exact { result ≡ secant_of row.now site }
     ensures size { FitsRow row.now result }
@@ -79,6 +79,13 @@ struct Best {
     multiplier: i128,
     part: i128,
     between: Between,
+}
+
+/// A multiplier, and the part that it gives.
+#[derive(Clone, Copy)]
+pub struct Chosen {
+    pub multiplier: i128,
+    pub part: i128,
 }
 
 /// No multiplier is as far from 0.
@@ -112,7 +119,7 @@ fn narrowed(between: Between, multiplier: i128, n: u32, counts: u32) -> Between
 /// A multiplier alone.
 #[tactic(auto, using(crate::proofs::Betters::first))]
 fn first(row: &Row<'_>, multiplier: i128) -> Best
-    requires row { CanRow (2 ^ 117) row.now }
+    requires row { CanRow (2 ^ 118) row.now }
     requires multiplier { FitsRow row.now multiplier }
     ensures exact { result.multiplier ≡ multiplier }
     ensures best { IsBestOf row.now result }
@@ -132,7 +139,7 @@ fn first(row: &Row<'_>, multiplier: i128) -> Best
 /// The better of the one so far and another multiplier.
 #[tactic(auto, using(crate::proofs::Betters::comparing))]
 fn better(row: &Row<'_>, best: Best, other: i128) -> Best
-    requires row { CanRow (2 ^ 117) row.now }
+    requires row { CanRow (2 ^ 118) row.now }
     requires other { FitsRow row.now other }
     requires best { IsBestOf row.now best }
     ensures exact { result.multiplier ≡ first_greatest (part_at row.now) best.multiplier (other ∷ []) }
@@ -164,9 +171,9 @@ fn better(row: &Row<'_>, best: Best, other: i128) -> Best
 /// The best of the one so far and the secant of a site, where its low is below its high.
 #[tactic(auto, using(crate::proofs::Secants::stepping))]
 fn best_with(row: &Row<'_>, site: usize, best: Best) -> Best
-    requires row { CanRow (2 ^ 117) row.now }
-    requires slopes { AreSlopes row.now.mix.now.lattice (2 ^ 116) (slopes_at row.now) }
-    requires site { site < length row.now.sites.now }
+    requires row { CanRow (2 ^ 118) row.now }
+    requires slopes { AreSlopes row.now.mix.now.lattice (2 ^ 116 + 2 ^ 86) row.now.slopes.now }
+    requires site { site < length row.now.slopes.now }
     requires best { IsBestOf row.now best }
     ensures exact { result.multiplier ≡ first_greatest (part_at row.now) best.multiplier (secants_of row.now site) }
     ensures best { IsBestOf row.now result }
@@ -181,11 +188,11 @@ fn best_with(row: &Row<'_>, site: usize, best: Best) -> Best
 /// The first site that has a secant, if there is one.
 #[tactic(auto, using(crate::proofs::Secants::opening))]
 fn first_open(row: &Row<'_>) -> Option<usize>
-    requires row { CanRow (2 ^ 117) row.now }
+    requires row { CanRow (2 ^ 118) row.now }
     ensures found { (site : ℕ) → result ≡ Some site → IsFirstOpen row.now site }
     ensures none { result ≡ None → all_secants row.now ≡ [] }
 {
-    'each: for site in 0..row.sites.len() {
+    'each: for site in 0..row.slopes.len() {
         if row.low[site] < row.high[site] {
             return Some(site);
         }
@@ -209,39 +216,70 @@ fn leaves_out_zero(between: Between) -> bool
     }
 }
 
-/// The best of the secants, or 0 where that is as good.
+/// The best so far, as it is chosen.
 #[tactic(auto, using(crate::proofs::Betters::zeros))]
-fn with_zero(row: &Row<'_>, best: Best) -> i128
-    requires row { CanRow (2 ^ 117) row.now }
+fn best_of(row: &Row<'_>, best: Best) -> Chosen
+    requires row { CanRow (2 ^ 118) row.now }
     requires best { IsBestOf row.now best }
-    requires chosen { IsFirstGreatest (part_at row.now) (all_secants row.now) best.multiplier }
-    ensures chosen { IsFirstGreatest (part_at row.now) (candidates_at row.now) result }
-    ensures size { FitsRow row.now result }
+    ensures exact { result.multiplier ≡ best.multiplier }
+    ensures part { result.part ≡ part_at row.now result.multiplier }
+    ensures size { FitsRow row.now result.multiplier }
 {
-    if leaves_out_zero(best.between) {
-        return best.multiplier;
-    }
-    let part = row_part(row, 0);
-    if part.height < best.part {
-        best.multiplier
-    } else {
-        0
+    Chosen {
+        multiplier: best.multiplier,
+        part: best.part,
     }
 }
 
-/// The first of 0 and the sites' secants that makes the sublattice's part greatest.
+/// 0, as it is chosen.
+#[tactic(auto, using(crate::proofs::Betters::zeros))]
+fn zero_of(row: &Row<'_>) -> Chosen
+    requires { CanRow (2 ^ 118) row.now }
+    ensures exact { result.multiplier ≡ pos 0 }
+    ensures part { result.part ≡ part_at row.now (pos 0) }
+{
+    let part = row_part(row, 0);
+    Chosen {
+        multiplier: 0,
+        part: part.height,
+    }
+}
+
+/// The best of the secants, or 0 where that is as good.
+#[tactic(auto, using(crate::proofs::Betters::zeros))]
+fn with_zero(row: &Row<'_>, best: Best) -> Chosen
+    requires row { CanRow (2 ^ 118) row.now }
+    requires best { IsBestOf row.now best }
+    requires chosen { IsFirstGreatest (part_at row.now) (all_secants row.now) best.multiplier }
+    ensures chosen { IsFirstGreatest (part_at row.now) (candidates_at row.now) result.multiplier }
+    ensures part { result.part ≡ part_at row.now result.multiplier }
+    ensures size { FitsRow row.now result.multiplier }
+{
+    if leaves_out_zero(best.between) {
+        return best_of(row, best);
+    }
+    let zero = zero_of(row);
+    if zero.part < best.part {
+        best_of(row, best)
+    } else {
+        zero
+    }
+}
+
+/// The first of 0 and the sites' secants that makes the sublattice's part greatest, and that part.
 #[tactic(auto, using(crate::proofs::Secants::chosen))]
-pub fn choose_row(row: &Row<'_>) -> i128
-    requires row { CanRow (2 ^ 117) row.now }
-    requires slopes { AreSlopes row.now.mix.now.lattice (2 ^ 116) (slopes_at row.now) }
-    ensures chosen { IsFirstGreatest (part_at row.now) (candidates_at row.now) result }
-    ensures size { FitsRow row.now result }
+pub fn choose_row(row: &Row<'_>) -> Chosen
+    requires row { CanRow (2 ^ 118) row.now }
+    requires slopes { AreSlopes row.now.mix.now.lattice (2 ^ 116 + 2 ^ 86) row.now.slopes.now }
+    ensures chosen { IsFirstGreatest (part_at row.now) (candidates_at row.now) result.multiplier }
+    ensures part { result.part ≡ part_at row.now result.multiplier }
+    ensures size { FitsRow row.now result.multiplier }
 {
     let Some(start) = first_open(row) else {
-        return 0;
+        return zero_of(row);
     };
     let mut best = first(row, secant(row, start));
-    'each: for site in start + 1..row.sites.len() {
+    'each: for site in start + 1..row.slopes.len() {
         best = best_with(row, site, best);
     }
     with_zero(row, best)

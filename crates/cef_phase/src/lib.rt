@@ -8,6 +8,7 @@ mod mixing;
 mod model;
 mod models;
 mod part;
+mod planes;
 mod row;
 mod slope;
 mod sum_phase;

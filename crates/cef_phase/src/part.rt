@@ -11,8 +11,8 @@ use cef_mix::Least;
 /// The least of a site's height less the multiplier's share, over its range, and a count that has it.
 #[tactic(auto, using(crate::proofs::Rows::site))]
 fn site_least(row: &Row<'_>, site: usize, multiplier: i128) -> Least
-    requires row { CanRow (2 ^ 117) row.now }
-    requires site { site < length row.now.sites.now }
+    requires row { CanRow (2 ^ 118) row.now }
+    requires site { site < length row.now.slopes.now }
     requires multiplier { FitsRow row.now multiplier }
     ensures least { IsSiteLeast row.now site multiplier result }
     ensures size { unsigned_abs result.height ≤ 2 ^ 119 }
@@ -34,15 +34,15 @@ pub struct Part {
 /// together, so much does the part rise at most for each further one of the multiplier.
 #[tactic(auto, using(crate::proofs::Rows::row))]
 pub fn row_part(row: &Row<'_>, multiplier: i128) -> Part
-    requires row { CanRow (2 ^ 117) row.now }
+    requires row { CanRow (2 ^ 118) row.now }
     requires multiplier { FitsRow row.now multiplier }
     ensures exact { result.height ≡ part_at row.now multiplier }
-    ensures size { unsigned_abs result.height ≤ 2 ^ 119 * length row.now.sites.now + 2 ^ 117 }
+    ensures size { unsigned_abs result.height ≤ 2 ^ 119 * length row.now.slopes.now + 2 ^ 117 }
     ensures line { IsUnderLine row.now multiplier result }
 {
     let mut height = share(multiplier, row.mix.parts());
     let mut counts = 0;
-    'each: for site in 0..row.sites.len() {
+    'each: for site in 0..row.slopes.len() {
         let least = site_least(row, site, multiplier);
         height = plus(height, least.height);
         counts += u32::from(least.place);

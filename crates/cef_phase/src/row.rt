@@ -2,15 +2,13 @@
 
 use cef_mix::Mix;
 
-/// A sublattice of a box: the tables of mixing and its place among them, the potentials of all components and its ratio, and
-/// the component and the range of each of its sites.
+/// A sublattice of a box: the tables of mixing and its place among them, and for each of its sites how much one count is
+/// worth and its range.
 #[derive(Clone, Copy)]
 pub struct Row<'a> {
     pub mix: &'a Mix,
     pub place: usize,
-    pub potentials: &'a [i128],
-    pub ratio: u32,
-    pub sites: &'a [Option<u16>],
+    pub slopes: &'a [i128],
     pub low: &'a [u16],
     pub high: &'a [u16],
 }

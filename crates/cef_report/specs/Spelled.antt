@@ -4,7 +4,7 @@ use Rattle.std.specs.List.{AllByRecursion, concat}
 use Rattle.cef_report.specs.declared.entry.Entry.{Entry}
 use Rattle.cef_report.specs.declared.report.Report.{Report}
 use Rattle.cef_tree.specs.declared.tree.Node.{Node}
-use Rattle.cef_tree.specs.declared.tree.Node.TheVariants.{Split, Leaf, Empty}
+use Rattle.cef_tree.specs.declared.tree.Node.TheVariants.{Split, Leaf, Affine, Empty}
 use Rattle.cef_tree.specs.declared.tree.Tree.{Tree}
 use Rattle.cef_core.specs.Lattices.{is_lattice}
 use Rattle.cal_limits.specs.declared.TheConstants.{LOWEST_TEMPERATURE, HIGHEST_TEMPERATURE, MOST_ELEMENTS, MOST_ASKED, MOST_SUBLATTICES, MOST_SITES, MOST_COUNT, MOST_ENTRIES, MOST_NUMBER, MOST_TOLERANCE, MOST_PRINTED_GAP}
@@ -36,10 +36,11 @@ pub record IsSpelledEntry (phases : ℕ) (entry : Entry) : Type 0 where
   pub amount_high : entry.amount ≤ℤ pos MOST_ASKED
   pub site : IsSpelledSite entry.site
 
--- The nodes of one box in preorder, in front of the nodes `rest`: a leaf of one or more multipliers, an empty box, or a split
--- and the nodes of its two parts.
+-- The nodes of one box in preorder, in front of the nodes `rest`: a leaf of either kind with one or more multipliers, an empty
+-- box, or a split and the nodes of its two parts.
 pub data Spans : List Node → List Node → Type 0 where
   leaf : (multipliers : List ℤ) (rest : List Node) → 0 < length multipliers → AllByRecursion IsNumber multipliers → Spans (Leaf multipliers ∷ rest) rest
+  affine : (multipliers : List ℤ) (rest : List Node) → 0 < length multipliers → AllByRecursion IsNumber multipliers → Spans (Affine multipliers ∷ rest) rest
   none : (rest : List Node) → Spans (Empty ∷ rest) rest
   cut : (place at : ℕ) (nodes middle rest : List Node) → place ≤ MOST_COUNT → at ≤ MOST_COUNT → Spans nodes middle → Spans middle rest → Spans (Split place at ∷ nodes) rest
 

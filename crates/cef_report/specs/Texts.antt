@@ -6,7 +6,7 @@ use Rattle.cal_scan.specs.Lines.{Word, Line, line}
 use Rattle.cef_report.specs.declared.entry.Entry.{Entry}
 use Rattle.cef_report.specs.declared.report.Report.{Report}
 use Rattle.cef_tree.specs.declared.tree.Node.{Node}
-use Rattle.cef_tree.specs.declared.tree.Node.TheVariants.{Split, Leaf, Empty}
+use Rattle.cef_tree.specs.declared.tree.Node.TheVariants.{Split, Leaf, Affine, Empty}
 use Rattle.cef_tree.specs.declared.tree.Tree.{Tree}
 
 -- a word and whole numbers
@@ -28,6 +28,7 @@ entry_words phases entry = codes "entry" ∷ slice_index_or phases entry.phase [
 abbrev pub node_words : Node → List Word
 node_words (Split place cut) = codes "S" ∷ decimal place ∷ decimal cut ∷ []
 node_words (Leaf multipliers) = number_words (codes "L") multipliers
+node_words (Affine multipliers) = number_words (codes "A") multipliers
 node_words Empty = codes "E" ∷ []
 
 -- of each phase a line with its name, and its nodes in preorder

@@ -7,6 +7,8 @@ pub enum Node {
     Split { place: u16, cut: u16 },
     /// The box lies on or above the plane of the potentials, as these multipliers show, one for each sublattice.
     Leaf { multipliers: Items<i128> },
+    /// The same, with planes below the parameters of the energy in place of their lows.
+    Affine { multipliers: Items<i128> },
     /// The box is one list without content.
     Empty,
 }

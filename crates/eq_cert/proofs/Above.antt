@@ -8,20 +8,27 @@ use Rattle.cef_core.specs.Phases.{IsFine}
 use Rattle.cef_box.specs.Boxes.{IsMember}
 use Rattle.cef_box.specs.Terms.{FitsBox, shape_of_phase}
 use Rattle.cef_box.specs.Tight.{full_box}
+use Rattle.cef_phase.specs.Affine.{affine_bound_of}
 use Rattle.cef_phase.specs.Bounds.{bound_of}
 use Rattle.cef_tree.specs.declared.tree.Node.{Node}
-use Rattle.cef_tree.specs.declared.tree.Node.TheVariants.{Split, Leaf, Empty}
+use Rattle.cef_tree.specs.declared.tree.Node.TheVariants.{Split, Leaf, Affine, Empty}
 use Rattle.cef_report.specs.Spelled.{Spans}
 use Rattle.eq_cert.specs.Trees.{Box, IsRight, IsRightAt, Stands}
 use Rattle.eq_cert.specs.Nodes.{IsEnd, IsReady}
 use Rattle.eq_cert.proofs.Covering.{Covers, end_covers, split_covers, covers_from_right, stands_shorter}
 use Rattle.eq_cert.proofs.Ready.{full_member, full_ready, parts_are, ready_left, ready_right}
 
+-- a bound of a box is at most the height of each member
+abbrev pub IsBelow : PhaseAt → (List (List ℕ) → ℤ) → (Box → List ℤ → ℤ) → Type 0
+IsBelow phase height bound =
+    (box : Box) (multipliers : List ℤ) (site : List (List ℕ)) → FitsBox (shape_of_phase phase) box → IsMember phase.lattice box site → bound box multipliers ≤ℤ height site
+
 module _ (phase : PhaseAt) (potentials : List ℤ) (height : List (List ℕ) → ℤ)
-    (law : (box : Box) (multipliers : List ℤ) (site : List (List ℕ)) → FitsBox (shape_of_phase phase) box → IsMember phase.lattice box site → bound_of phase potentials box multipliers ≤ℤ height site) where
+    (law : IsBelow phase height (bound_of phase potentials)) (affine_law : IsBelow phase height (affine_bound_of phase potentials)) where
   end_above : (box : Box) (node : Node) → IsReady phase box → IsRight phase potentials box node → IsEnd node → (site : List (List ℕ)) → IsMember phase.lattice box site → IsConstitution phase site → pos 0 ≤ℤ height site
   end_above box (Split place at) ready right is_end site h is = absurd is_end
   end_above box (Leaf multipliers) ready right is_end site h is = omega (arith, ints, right.above, law box multipliers site ready.fits h)
+  end_above box (Affine multipliers) ready right is_end site h is = omega (arith, ints, right.above, affine_law box multipliers site ready.fits h)
   end_above box Empty ready right is_end site h is = absurd (right.without site h is.some)
 
   pub covers_above : (box : Box) (nodes rest : List Node) → Covers phase potentials box nodes rest → IsReady phase box → (site : List (List ℕ)) → IsMember phase.lattice box site → IsConstitution phase site → pos 0 ≤ℤ height site

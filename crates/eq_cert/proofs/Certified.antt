@@ -5,7 +5,6 @@ use Rattle.std.specs.List.{concat}
 use Rattle.std.proofs.lemmas.Bool.{cases_lt}
 use Rattle.std.proofs.lemmas.Int.{ints}
 use Rattle.std.proofs.lemmas.Option.{slice_get-get_or, slice_get_within}
-use Rattle.cef_box.specs.Boxes.{IsMember}
 use Rattle.cef_core.specs.declared.phase.PhaseAt.{PhaseAt}
 use Rattle.cef_core.specs.declared.system.System.{System}
 use Rattle.cef_report.specs.declared.entry.Entry.{Entry}
@@ -14,7 +13,7 @@ use Rattle.cef_tree.specs.declared.tree.Tree.{Tree}
 use Rattle.cef_core.specs.Constitutions.{content}
 use Rattle.cef_core.specs.Energies.{energy}
 use Rattle.cef_core.specs.Systems.{IsPhaseOf, IsSystem}
-use Rattle.cef_box.specs.Terms.{FitsBox, shape_of_phase}
+use Rattle.cef_phase.specs.Affine.{affine_bound_of}
 use Rattle.cef_phase.specs.Bounds.{bound_of}
 use Rattle.cef_report.specs.Assemblages.{IsEntry, IsAssemblage}
 use Rattle.cef_core.specs.Worth.{worth}
@@ -27,7 +26,7 @@ use Rattle.eq_cert.specs.Rules.{IsRightEntryAt, IsRightNode, node_line, MeetsRul
 use Rattle.eq_cert.specs.Judging.{HeadHolds}
 use Rattle.eq_cert.specs.declared.rule.CheckRule.TheVariants.{System as by_system, Entry as by_entry, Total as by_total, Energy as by_energy, Tolerance as by_tolerance, Gap as by_gap, Potentials as by_potentials, Tree as by_tree}
 use Rattle.eq_cert.proofs.Picks.{all_at, item_at}
-use Rattle.eq_cert.proofs.Above.{above_from_right}
+use Rattle.eq_cert.proofs.Above.{IsBelow, above_from_right}
 
 -- ---- entries that rise
 
@@ -80,11 +79,13 @@ head_from_rules s r meets = record {
   potentials = meets (11 + length r.entries) by_potentials refl;
 }
 
--- the bound of a box is at most 2^16*G - M*b of each member, for each phase of the system
+-- a bound of a box is at most 2^16*G - M*b of each member
+abbrev pub IsLow : PhaseAt → (List ℤ → Box → List ℤ → ℤ) → Type 0
+IsLow phase bound = (potentials : List ℤ) → IsBelow phase (λ site. pos 65536 *ℤ energy phase site -ℤ worth potentials (content phase site)) (bound potentials)
+
+-- both bounds are, for each phase of the system
 abbrev pub IsLawful : System → Type 0
-IsLawful s =
-    (k : ℕ) (phase : PhaseAt) → slice_get s.phases k ≡ Some phase → (potentials : List ℤ) (box : Box) (multipliers : List ℤ) (site : List (List ℕ)) → FitsBox (shape_of_phase phase) box → IsMember phase.lattice box site →
-    bound_of phase potentials box multipliers ≤ℤ (pos 65536 *ℤ energy phase site -ℤ worth potentials (content phase site))
+IsLawful s = (k : ℕ) (phase : PhaseAt) → slice_get s.phases k ≡ Some phase → IsLow phase (bound_of phase) × IsLow phase (affine_bound_of phase)
 
 model_at : {T : Type 0} (f : T → PhaseAt) (models : List T) (k : ℕ) (phase : PhaseAt) → slice_get (map f models) k ≡ Some phase → (m : T) × (f m ≡ phase)
 model_at f [] k phase e = absurd cc
@@ -93,11 +94,10 @@ model_at f (m ∷ models) (suc k) phase e = model_at f models k phase e
 
 -- the laws of the models
 pub lawful_from : {T : Type 0} (f : T → PhaseAt) (models : List T) (s : System) → map f models ≡ s.phases →
-    ((m : T) (potentials : List ℤ) (box : Box) (multipliers : List ℤ) (site : List (List ℕ)) → FitsBox (shape_of_phase (f m)) box → IsMember (f m).lattice box site → bound_of (f m) potentials box multipliers ≤ℤ (pos 65536 *ℤ energy (f m) site -ℤ worth potentials (content (f m) site))) →
-    IsLawful s
-lawful_from f models s e law k phase at =
+    ((m : T) → IsLow (f m) (bound_of (f m))) → ((m : T) → IsLow (f m) (affine_bound_of (f m))) → IsLawful s
+lawful_from f models s e law affine_law k phase at =
     let found = model_at f models k phase (ap (λ (ps : List PhaseAt). slice_get ps k) e ∙ at) in
-    subst (λ (q : PhaseAt). (potentials : List ℤ) (box : Box) (multipliers : List ℤ) (site : List (List ℕ)) → FitsBox (shape_of_phase q) box → IsMember q.lattice box site → bound_of q potentials box multipliers ≤ℤ (pos 65536 *ℤ energy q site -ℤ worth potentials (content q site))) found.1 (law found.0)
+    subst (λ (q : PhaseAt). IsLow q (bound_of q) × IsLow q (affine_bound_of q)) found.1 (law found.0, affine_law found.0)
 
 module _ (s : System) (law : IsLawful s) (r : Report) (spelled : IsSpelled r) (is_system : IsSystem s) where
   above : HeadHolds s r → ((p place : ℕ) → IsRightNode s.phases r.potentials r.trees p place) → IsAbove s r.potentials
@@ -108,9 +108,10 @@ module _ (s : System) (law : IsLawful s) (r : Report) (spelled : IsSpelled r) (i
       let one : IsPhaseOf s phase = all_at (IsPhaseOf s) s.phases p phase is_system.phases is_phase in
       let spans : Spans tree.nodes [] = all_at IsSpelledTree r.trees p tree spelled.trees found.1 in
       let height : List (List ℕ) → ℤ = λ site. pos 65536 *ℤ energy phase site -ℤ worth r.potentials (content phase site) in
-      let low : pos 0 ≤ℤ (pos 65536 *ℤ energy phase counts -ℤ worth r.potentials (content phase counts)) =
-      above_from_right phase r.potentials height (law p phase is_phase r.potentials) tree.nodes one.fine spans (λ place. nodes p place phase tree is_phase found.1) counts is in
-      omega (arith, ints, low)
+      let low = law p phase is_phase in
+      let above : pos 0 ≤ℤ (pos 65536 *ℤ energy phase counts -ℤ worth r.potentials (content phase counts)) =
+      above_from_right phase r.potentials height (low.0 r.potentials) (low.1 r.potentials) tree.nodes one.fine spans (λ place. nodes p place phase tree is_phase found.1) counts is in
+      omega (arith, ints, above)
 
   entry_is : HeadHolds s r → (k : ℕ) (entry : Entry) → slice_get r.entries k ≡ Some entry → IsEntry s entry
   entry_is head k entry is =

@@ -6,8 +6,8 @@ use Rattle.cef_box.specs.Cuts.{IsCut, IsCuttable, placed_in, left_range, right_r
 use Rattle.cef_box.specs.Tight.{tightened_box, full_box}
 use Rattle.cef_core.specs.declared.phase.PhaseAt.{PhaseAt}
 use Rattle.cef_tree.specs.declared.tree.Node.{Node}
-use Rattle.cef_tree.specs.declared.tree.Node.TheVariants.{Split, Leaf, Empty}
-use Rattle.cef_report.specs.Spelled.{Spans, leaf, none, cut}
+use Rattle.cef_tree.specs.declared.tree.Node.TheVariants.{Split, Leaf, Affine, Empty}
+use Rattle.cef_report.specs.Spelled.{Spans, leaf, affine, none, cut}
 use Rattle.eq_cert.specs.First.{IsFirstWrong}
 use Rattle.eq_cert.specs.Trees.{Box, Stands, first, in_left, in_right, IsRight, IsRightAt}
 use Rattle.eq_cert.specs.Nodes.{IsEnd}
@@ -45,6 +45,7 @@ cuttable n box left right place at c = record { range = c.range; range_is = c.ra
 
 pub spans_end : (node : Node) (rest middle : List Node) → IsEnd node → Spans (node ∷ rest) middle → rest ≡ middle
 spans_end _ _ _ h (leaf multipliers rest some fine) = refl
+spans_end _ _ _ h (affine multipliers rest some fine) = refl
 spans_end _ _ _ h (none rest) = refl
 spans_end _ _ _ h (cut place at nodes middle rest p q l r) = absurd h
 
@@ -56,11 +57,13 @@ spans_none rest h = elim h [ ]
 
 pub spans_shorter : (nodes rest : List Node) → Spans nodes rest → length rest < length nodes
 spans_shorter _ _ (leaf multipliers rest some fine) = omega arith
+spans_shorter _ _ (affine multipliers rest some fine) = omega arith
 spans_shorter _ _ (none rest) = omega arith
 spans_shorter _ _ (cut place at nodes middle rest p q l r) = omega (arith, spans_shorter nodes middle l, spans_shorter middle rest r)
 
 pub spans_same : (nodes a b : List Node) → Spans nodes a → Spans nodes b → a ≡ b
 spans_same _ _ b (leaf multipliers rest some fine) h = spans_end (Leaf multipliers) rest b tt h
+spans_same _ _ b (affine multipliers rest some fine) h = spans_end (Affine multipliers) rest b tt h
 spans_same _ _ b (none rest) h = spans_end Empty rest b tt h
 spans_same _ _ b (cut place at nodes middle rest p q l r) h =
     let i = spans_cut place at nodes b h in
@@ -189,6 +192,7 @@ module _ (phase : PhaseAt) (potentials : List ℤ) where
 
   pub covers_from_right : (box : Box) (nodes rest : List Node) → Spans nodes rest → ((node : Node) (more : List Node) (part : Box) → Stands phase.lattice box nodes (node ∷ more) part → IsRight phase potentials part node) → Covers phase potentials box nodes rest
   covers_from_right box _ _ (leaf multipliers rest some fine) right = end_covers box (Leaf multipliers) rest (right (Leaf multipliers) rest box (first box (Leaf multipliers ∷ rest))) tt
+  covers_from_right box _ _ (affine multipliers rest some fine) right = end_covers box (Affine multipliers) rest (right (Affine multipliers) rest box (first box (Affine multipliers ∷ rest))) tt
   covers_from_right box _ _ (none rest) right = end_covers box Empty rest (right Empty rest box (first box (Empty ∷ rest))) tt
   covers_from_right box _ _ (cut place at nodes middle rest p q l r) right =
       let here : IsCuttable box place at = right (Split place at) nodes box (first box (Split place at ∷ nodes)) in

@@ -2,7 +2,7 @@
 use Rattle.std.specs.Prelude.{◌≡◌, ℕ, List, ℤ}
 use Rattle.cef_core.specs.declared.phase.PhaseAt.{PhaseAt}
 use Rattle.cef_tree.specs.declared.tree.Node.{Node}
-use Rattle.cef_tree.specs.declared.tree.Node.TheVariants.{Split, Leaf, Empty}
+use Rattle.cef_tree.specs.declared.tree.Node.TheVariants.{Split, Leaf, Affine, Empty}
 use Rattle.cef_box.specs.Cuts.{IsCut, IsCuttable}
 use Rattle.cef_box.specs.Terms.{FitsBox, shape_of_phase}
 use Rattle.cef_box.specs.Tight.{HasSite, IsTightBox}
@@ -20,6 +20,7 @@ pub record IsReady (phase : PhaseAt) (box : Box) : Type 0 where
 abbrev pub IsEnd : Node → Type 0
 IsEnd (Split place cut) = ⊥
 IsEnd (Leaf multipliers) = Unit {0}
+IsEnd (Affine multipliers) = Unit {0}
 IsEnd Empty = Unit {0}
 
 abbrev pub IsFound : PhaseAt → List ℤ → Box → Node → Found → Type 0

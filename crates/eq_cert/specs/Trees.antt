@@ -2,12 +2,13 @@
 use Rattle.std.specs.Prelude.{◌≡◌, ℕ, suc, ◌+◌, List, ◌∷◌, length, ℤ, pos, ◌≤ℤ◌}
 use Rattle.cef_core.specs.declared.phase.PhaseAt.{PhaseAt}
 use Rattle.cef_tree.specs.declared.tree.Node.{Node}
-use Rattle.cef_tree.specs.declared.tree.Node.TheVariants.{Split, Leaf, Empty}
+use Rattle.cef_tree.specs.declared.tree.Node.TheVariants.{Split, Leaf, Affine, Empty}
 use Rattle.cef_core.specs.Constitutions.{HasContent}
 use Rattle.cef_box.specs.declared.range.Range.{Range}
 use Rattle.cef_box.specs.Boxes.{IsMember, IsSingle}
 use Rattle.cef_box.specs.Cuts.{IsCut, IsCuttable}
 use Rattle.cef_box.specs.Tight.{full_box}
+use Rattle.cef_phase.specs.Affine.{affine_bound_of}
 use Rattle.cef_phase.specs.Bounds.{bound_of, AreMultipliers}
 use Rattle.cef_report.specs.Spelled.{Spans}
 
@@ -32,6 +33,11 @@ pub record IsAbovePlane (phase : PhaseAt) (potentials : List ℤ) (box : Box) (m
   pub multipliers_fit : AreMultipliers phase multipliers
   pub above : pos 0 ≤ℤ bound_of phase potentials box multipliers
 
+-- the same with an affine bound of at least 0
+pub record IsAboveByPlanes (phase : PhaseAt) (potentials : List ℤ) (box : Box) (multipliers : List ℤ) : Type 0 where
+  pub multipliers_fit : AreMultipliers phase multipliers
+  pub above : pos 0 ≤ℤ affine_bound_of phase potentials box multipliers
+
 -- the box is one list, and that has no content
 pub record IsVoid (phase : PhaseAt) (box : Box) : Type 0 where
   pub single : IsSingle box
@@ -42,6 +48,7 @@ pub record IsVoid (phase : PhaseAt) (box : Box) : Type 0 where
 abbrev pub IsRight : PhaseAt → List ℤ → Box → Node → Type 0
 IsRight phase potentials box (Split place cut) = IsCuttable box place cut
 IsRight phase potentials box (Leaf multipliers) = IsAbovePlane phase potentials box multipliers
+IsRight phase potentials box (Affine multipliers) = IsAboveByPlanes phase potentials box multipliers
 IsRight phase potentials box Empty = IsVoid phase box
 
 -- the node at a place of the tree of the phase's full box is right for its box

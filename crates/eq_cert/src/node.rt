@@ -1,11 +1,12 @@
 //! What is found of one node.
 
-ghost use Rattle.std.specs.Prelude.{◌^◌, IfOk};
+ghost use Rattle.std.specs.Prelude.{◌≡◌, ◌^◌, IfOk};
 ghost use Rattle.std.specs.Bool.{OnTrue, OnFalse};
 ghost use Rattle.cef_core.specs.Phases.{IsFine};
 ghost use Rattle.cef_phase.specs.Bounds.{IsPlane, AreMultipliers};
-ghost use Rattle.eq_cert.specs.Trees.{IsAbovePlane};
+ghost use Rattle.eq_cert.specs.Trees.{IsAbovePlane, IsAboveByPlanes};
 ghost use Rattle.eq_cert.specs.Nodes.{IsReady, IsFound, IsCutFound};
+ghost use Rattle.eq_cert.specs.declared.node.Found.TheVariants.{Covered, Wrong};
 
 use crate::limits::are_small;
 use crate::void::is_void;
@@ -56,6 +57,26 @@ fn is_above_plane<P: PhaseModel>(
     bound >= 0
 }
 
+/// Whether the multipliers of an affine leaf show the same by the planes below the parameters.
+fn is_above_by_planes<P: PhaseModel>(
+    model: &P,
+    potentials: &[i128],
+    range: &BoxRange,
+    multipliers: &[i128],
+) -> bool
+    requires fine { IsFine (P.phase_of model.now) }
+    requires plane { IsPlane (2 ^ 117) (P.phase_of model.now) potentials.now }
+    requires ready { IsReady (P.phase_of model.now) range.now }
+    ensures yes { OnTrue result (IsAboveByPlanes (P.phase_of model.now) potentials.now range.now multipliers.now) }
+    ensures no { OnFalse result (IsAboveByPlanes (P.phase_of model.now) potentials.now range.now multipliers.now → ⊥) }
+{
+    if !are_multipliers(model.phase(), multipliers) {
+        return false;
+    }
+    let low = model.affine_bound(range, potentials, multipliers);
+    low >= 0
+}
+
 /// The parts of a box at a cut, where it can be cut there.
 #[tactic(auto, using(crate::proofs::Ready::cutting))]
 fn parts_of(
@@ -84,6 +105,18 @@ fn parts_of(
     Ok(Found::Parts(left, right))
 }
 
+/// What is found of a node with no nodes below it.
+fn end_found(is_right: bool) -> Found
+    ensures covered { OnTrue is_right (result ≡ Covered) }
+    ensures wrong { OnFalse is_right (result ≡ Wrong) }
+{
+    if is_right {
+        Found::Covered
+    } else {
+        Found::Wrong
+    }
+}
+
 /// What is found of a node that stands for a box.
 pub(crate) fn judge<P: PhaseModel>(
     alloc: Global,
@@ -103,19 +136,16 @@ pub(crate) fn judge<P: PhaseModel>(
             Ok(found)
         }
         Node::Leaf { multipliers } => {
-            if is_above_plane(model, potentials, range, multipliers.as_slice()) {
-                Ok(Found::Covered)
-            } else {
-                Ok(Found::Wrong)
-            }
+            let above = is_above_plane(model, potentials, range, multipliers.as_slice());
+            Ok(end_found(above))
+        }
+        Node::Affine { multipliers } => {
+            let above = is_above_by_planes(model, potentials, range, multipliers.as_slice());
+            Ok(end_found(above))
         }
         Node::Empty => {
             let void = is_void(alloc, model.phase(), range)?;
-            if void {
-                Ok(Found::Covered)
-            } else {
-                Ok(Found::Wrong)
-            }
+            Ok(end_found(void))
         }
     }
 }

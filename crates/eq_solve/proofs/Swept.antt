@@ -12,7 +12,7 @@ use Rattle.cef_core.specs.Phases.{IsFine}
 use Rattle.cef_core.specs.Systems.{IsAmong, IsPhaseOf, IsSystem, greatest, widest_of, all_points}
 use Rattle.cef_phase.specs.Bounds.{IsOneOf, IsPlane}
 use Rattle.cef_report.specs.Spelled.{IsNumber, IsSpelledTree, Spans}
-use Rattle.cef_report.specs.Spelled.{leaf as spans_leaf, none as spans_none, cut as spans_cut}
+use Rattle.cef_report.specs.Spelled.{leaf as spans_leaf, affine as spans_affine, none as spans_none, cut as spans_cut}
 use Rattle.cef_tree.specs.declared.tree.Node.{Node}
 use Rattle.cef_core.specs.Shapes.{places}
 use Rattle.cef_box.specs.declared.range.Range.{Range}
@@ -21,8 +21,8 @@ use Rattle.cef_box.specs.Cuts.{range_at}
 use Rattle.cef_box.specs.Tight.{full_box}
 use Rattle.cef_phase.specs.Bounds.{AreMultipliers}
 use Rattle.eq_sweep.specs.Findings.{IsReady}
-use Rattle.eq_sweep.specs.Visits.{Visits, void, leaf, split}
-use Rattle.eq_sweep.proofs.Chosen.{chosen_are_sized}
+use Rattle.eq_sweep.specs.Visits.{Visits, void, leaf, affine, split}
+use Rattle.eq_sweep.proofs.Chosen.{chosen_are_sized, chosen_affine_are_sized}
 use Rattle.eq_sweep.proofs.Middles.{widest_is_within}
 use Rattle.eq_sweep.proofs.Ready.{full_ready, ready_left, ready_right}
 use Rattle.eq_sweep.specs.declared.swept.Swept.{Swept}
@@ -120,17 +120,25 @@ range_within n (row ∷ rows) place range all is = by_test (ltb place (length ro
     by_test true here behind = all_at (IsRange n) row place range all.0 here
     by_test false here behind = behind here
 
-multipliers_numbers : (n : ℕ) (multipliers : List ℤ) → 1 ≤ n → AllByRecursion (λ l. unsigned_abs l * n ≤ 2 ^ 117) multipliers → AllByRecursion IsNumber multipliers
-multipliers_numbers n [] one all = tt
-multipliers_numbers n (l ∷ multipliers) one all = (omega (arith, all.0, mul-le-mul_left (unsigned_abs l) one), multipliers_numbers n multipliers one all.1)
+all_numbers : (n : ℕ) (multipliers : List ℤ) → 1 ≤ n → AllByRecursion (λ l. unsigned_abs l * n ≤ 2 ^ 117) multipliers → AllByRecursion IsNumber multipliers
+all_numbers n [] one all = tt
+all_numbers n (l ∷ multipliers) one all = (omega (arith, all.0, mul-le-mul_left (unsigned_abs l) one), all_numbers n multipliers one all.1)
+
+multipliers_numbers : (phase : PhaseAt) (multipliers : List ℤ) → IsFine phase → AreMultipliers phase multipliers → AllByRecursion IsNumber multipliers
+multipliers_numbers phase multipliers fine sized = all_numbers phase.lattice multipliers (omega (arith, (lattice_within phase.lattice fine.keeps.lattice).0)) sized.small
+
+multipliers_some : (phase : PhaseAt) (multipliers : List ℤ) → IsFine phase → AreMultipliers phase multipliers → 0 < length multipliers
+multipliers_some phase multipliers fine sized = omega (arith, sized.each, fine.keeps.sublattices_low)
 
 visits_spans : (phase : PhaseAt) (potentials : List ℤ) → IsFine phase → IsPlane (2 ^ 116) phase potentials → (budget : ℕ) (box : List (List Range)) (splits : ℕ) (nodes rest : List Node) (after : ℕ) →
     Visits phase potentials budget box splits nodes rest after → IsReady phase box → Spans nodes rest
 visits_spans phase potentials fine plane budget _ _ _ _ _ (void box splits rest is) ready = spans_none rest
 visits_spans phase potentials fine plane budget _ _ _ _ _ (leaf box splits multipliers rest is) ready =
     let sized : AreMultipliers phase multipliers = chosen_are_sized phase potentials box multipliers fine plane ready.fits is.chosen in
-    spans_leaf multipliers rest (omega (arith, sized.each, fine.keeps.sublattices_low))
-    (multipliers_numbers phase.lattice multipliers (omega (arith, (lattice_within phase.lattice fine.keeps.lattice).0)) sized.small)
+    spans_leaf multipliers rest (multipliers_some phase multipliers fine sized) (multipliers_numbers phase multipliers fine sized)
+visits_spans phase potentials fine plane budget _ _ _ _ _ (affine box splits multipliers rest is) ready =
+    let sized : AreMultipliers phase multipliers = chosen_affine_are_sized phase potentials box multipliers fine plane ready.fits is.chosen in
+    spans_affine multipliers rest (multipliers_some phase multipliers fine sized) (multipliers_numbers phase multipliers fine sized)
 visits_spans phase potentials fine plane budget _ _ _ _ _ (split box left right place cut splits between after nodes middle rest is less halved first second) ready =
     let inside : place < places box = widest_is_within box place halved.range halved.widest in
     let few : places box ≡ places phase.sites = ap sum ready.fits.widths in

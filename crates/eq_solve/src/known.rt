@@ -5,6 +5,7 @@ ghost use Rattle.std.specs.List.{insert};
 ghost use Rattle.cef_report.specs.Holding.{IsBefore};
 ghost use Rattle.eq_solve.specs.Knowing.{IsPlaceOf, IsStuck, IsWith};
 
+use crate::found::Found;
 use crate::point::Point;
 use cef_core::is_less;
 use cef_report::Entry;
@@ -16,6 +17,13 @@ use std::alloc::{AllocError, Global};
 pub(crate) struct Known {
     pub(crate) entries: Vec<Entry>,
     pub(crate) columns: Vec<Column>,
+}
+
+/// The numbers of an equilibrium, and what was known at last.
+#[derive(Drop)]
+pub(crate) struct Reached {
+    pub(crate) found: Found,
+    pub(crate) known: Known,
 }
 
 /// Whether the first entry is before the second, by phase and then by counts.

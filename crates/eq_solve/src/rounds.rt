@@ -7,8 +7,7 @@ ghost use Rattle.eq_solve.specs.Points.{IsKnownAs, IsNew};
 ghost use Rattle.eq_solve.specs.Rounds.{CanSolve};
 
 use crate::fault::SolveFault;
-use crate::found::Found;
-use crate::known::Known;
+use crate::known::{Known, Reached};
 use crate::phases::Phases;
 use crate::point::{Gain, Point, Round};
 use crate::proposal::is_constitution;
@@ -91,26 +90,29 @@ fn with_gain<P: Phases>(
 
 /// The numbers of an equilibrium of a system for the asked totals in units of 1/N nmol, the asked gap in µJ per mol of components, and the
 /// budget of splits of each sweep. It works in rounds: an exact plan over the known constitutions, and a sweep under its potentials, lowered
-/// by the margin, which closes or finds a constitution that was not known. Any starts serve: those that are no constitutions are left out.
+/// by the margin, which closes or finds a constitution that was not known. Any starts and any further ones serve: those that are no constitutions are left
+/// out.
 pub(crate) fn equilibrium_by_rounds<P: Phases>(
     alloc: Global,
     system: &System,
     phases: &P,
     starts: &[Entry],
+    further: &[Entry],
     asked: &[i128],
     gap: u64,
     budget: u64,
-) -> Result<Found, SolveFault>
+) -> Result<Reached, SolveFault>
     requires ready { P.ready phases.now }
     requires same { P.system phases.now ≡ system.now }
     requires can { CanSolve system.now asked.now gap }
-    ensures found { IfOk result (λ found. IsFound system.now (P.swept phases.now) asked.now gap budget found) }
+    ensures found { IfOk result (λ r. IsFound system.now (P.swept phases.now) asked.now gap budget r.found) }
 
     // An answer other than `Infeasible` and `Memory` comes only where the asked totals are feasible.
-    ensures feasible { IfOk result (λ found. IsFeasible system.now asked.now) }
+    ensures feasible { IfOk result (λ r. IsFeasible system.now asked.now) }
     ensures fault { IfErr result (λ fault. IsFault system.now (P.swept phases.now) asked.now gap budget fault) }
 {
-    let mut known = with_entries(alloc, system, phases, Known::new(alloc), starts)?;
+    let begun = with_entries(alloc, system, phases, Known::new(alloc), starts)?;
+    let mut known = with_entries(alloc, system, phases, begun, further)?;
     'rounds: loop {
         let next = round(
             alloc,
@@ -123,7 +125,7 @@ pub(crate) fn equilibrium_by_rounds<P: Phases>(
             &known.columns,
         )?;
         match next {
-            Round::Done(found) => return Ok(found),
+            Round::Done(found) => return Ok(Reached { found, known }),
             Round::Next(gain) => {
                 known = with_gain(alloc, system, phases, known, gain)?;
             }

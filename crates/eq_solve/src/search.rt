@@ -26,7 +26,7 @@ pub(crate) struct Search {
 }
 
 /// How far a column lies above the plane of the prices, in 2^-16 µJ/mol of formula units.
-fn height_of(prices: &[i128], column: &Column) -> i128 {
+pub(crate) fn height_of(prices: &[i128], column: &Column) -> i128 {
     let mut worth: i128 = 0;
     'components: for place in 0..column.amounts.len() {
         if place < prices.len() {
@@ -37,7 +37,7 @@ fn height_of(prices: &[i128], column: &Column) -> i128 {
 }
 
 /// How much a column holds in all.
-fn amount_of(column: &Column) -> i128 {
+pub(crate) fn amount_of(column: &Column) -> i128 {
     let mut sum: i128 = 0;
     'components: for amount in &column.amounts {
         sum = sum.saturating_add(*amount);

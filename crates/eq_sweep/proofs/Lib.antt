@@ -1,4 +1,5 @@
 pub mod Ready
+pub mod Slopes
 pub mod Chosen
 pub mod Listing
 pub mod Members

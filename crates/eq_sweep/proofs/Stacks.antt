@@ -4,13 +4,13 @@ use Rattle.std.specs.Prelude.{◌⊎◌, ℤ}
 use Rattle.std.proofs.lemmas.List.{reverse-append, append-nil, length-append, length-take-le}
 use Rattle.cef_core.specs.declared.phase.PhaseAt.{PhaseAt}
 use Rattle.cef_tree.specs.declared.tree.Node.{Node}
-use Rattle.cef_tree.specs.declared.tree.Node.TheVariants.{Split, Leaf, Empty}
+use Rattle.cef_tree.specs.declared.tree.Node.TheVariants.{Split, Leaf, Affine, Empty}
 use Rattle.cef_box.specs.Cuts.{IsCut}
 use Rattle.eq_sweep.specs.declared.cut.Cut.{Cut}
 use Rattle.cef_core.specs.Shapes.{shape}
 use Rattle.cef_box.specs.Tight.{full_box}
 use Rattle.eq_sweep.specs.Findings.{IsReady, IsNodeOf, IsMiddle, ArePushed, AreShaped}
-use Rattle.eq_sweep.specs.Visits.{IsOpen, IsHalved, Visits, void, leaf, End, below, out, Stops, at_budget}
+use Rattle.eq_sweep.specs.Visits.{IsOpen, IsHalved, Visits, void, leaf, affine, End, below, out, Stops, at_budget}
 use Rattle.eq_sweep.proofs.Members.{lists_in, some_list, lists_parts}
 use Rattle.eq_sweep.proofs.Ready.{Box, ready_left, ready_right}
 use Rattle.eq_sweep.proofs.Spares.{shaped_push}
@@ -78,6 +78,7 @@ top_ready phase potentials budget start used boxes rest box nodes splits e g = (
 visits_node : (phase : PhaseAt) (potentials : List ℤ) (budget : ℕ) (box : Box) (node : Node) (splits : ℕ) (rest : List Node) → IsNodeOf phase potentials box node → Visits phase potentials budget box splits (node ∷ rest) rest splits
 visits_node phase potentials budget box Empty splits rest is = void box splits rest is
 visits_node phase potentials budget box (Leaf multipliers) splits rest is = leaf box splits multipliers rest is
+visits_node phase potentials budget box (Affine multipliers) splits rest is = affine box splits multipliers rest is
 visits_node phase potentials budget box (Split place cut) splits rest is = absurd is
 
 pub goes_node : (phase : PhaseAt) (potentials : List ℤ) (budget : ℕ) (start : Box) (used : ℕ) (boxes rest : List Box) (box : Box) (nodes nodes' : List Node) (node : Node) (splits : ℕ) →

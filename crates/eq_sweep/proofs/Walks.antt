@@ -4,7 +4,7 @@ use Rattle.std.specs.Prelude.{◌⊎◌, ℤ, pos, ◌-ℤ◌, ◌*ℤ◌, ◌�
 use Rattle.std.proofs.lemmas.Int.{ints}
 use Rattle.cef_core.specs.declared.phase.PhaseAt.{PhaseAt}
 use Rattle.cef_tree.specs.declared.tree.Node.{Node}
-use Rattle.cef_tree.specs.declared.tree.Node.TheVariants.{Split, Leaf, Empty}
+use Rattle.cef_tree.specs.declared.tree.Node.TheVariants.{Split, Leaf, Affine, Empty}
 use Rattle.cef_core.specs.Constitutions.{HasContent, IsConstitution, content}
 use Rattle.cef_core.specs.Energies.{energy}
 use Rattle.cef_core.specs.Phases.{IsFine}
@@ -13,14 +13,14 @@ use Rattle.cef_box.specs.Boxes.{IsMember, IsSingle}
 use Rattle.cef_box.specs.Corners.{corner_site}
 use Rattle.cef_box.specs.Cuts.{IsCut}
 use Rattle.cef_box.specs.Terms.{FitsBox, shape_of_phase}
-use Rattle.cef_phase.specs.Bounds.{bound_of, IsPlane, AreMultipliers}
-use Rattle.cef_phase.specs.Choosing.{AreChosen}
+use Rattle.cef_phase.specs.Affine.{affine_bound_of}
+use Rattle.cef_phase.specs.Bounds.{bound_of, IsPlane}
 use Rattle.eq_sweep.specs.Findings.{IsReady}
-use Rattle.eq_sweep.specs.Trees.{Covers, void_covers, leaf_covers, split_covers}
-use Rattle.eq_sweep.specs.Visits.{IsVoid, IsBelow, IsOpen, IsHalved, Visits, void, leaf, split, End, below, out, Stops, at_corner, at_budget, in_left, in_right}
+use Rattle.eq_sweep.specs.Trees.{Covers, void_covers, leaf_covers, affine_covers, split_covers}
+use Rattle.eq_sweep.specs.Visits.{IsVoid, IsBelow, IsOpen, IsHalved, Visits, void, leaf, affine, split, End, below, out, Stops, at_corner, at_budget, in_left, in_right}
 use Rattle.eq_sweep.proofs.Members.{lists_in, some_list, lists_parts}
 use Rattle.cef_box.proofs.Singles.{single_corner}
-use Rattle.eq_sweep.proofs.Chosen.{chosen_are_sized}
+use Rattle.eq_sweep.proofs.Chosen.{chosen_are_sized, chosen_affine_are_sized}
 use Rattle.eq_sweep.proofs.Ready.{Box, parts_are, ready_left, ready_right, corner_is_member}
 
 -- the laws of bounds, for a phase and potentials
@@ -29,6 +29,8 @@ pub record IsLawful (phase : PhaseAt) (potentials : List ℤ) : Type 0 where
       bound_of phase potentials box multipliers ≤ℤ (pos 65536 *ℤ energy phase counts -ℤ worth potentials (content phase counts))
   pub exactly : (box : Box) (multipliers : List ℤ) (counts : List (List ℕ)) → FitsBox (shape_of_phase phase) box → IsMember phase.lattice box counts → IsSingle box →
       bound_of phase potentials box multipliers ≡ pos 65536 *ℤ energy phase counts -ℤ worth potentials (content phase counts)
+  pub affine_below : (box : Box) (multipliers : List ℤ) (counts : List (List ℕ)) → FitsBox (shape_of_phase phase) box → IsMember phase.lattice box counts →
+      affine_bound_of phase potentials box multipliers ≤ℤ (pos 65536 *ℤ energy phase counts -ℤ worth potentials (content phase counts))
 
 -- what a sweep asks of a phase and potentials
 pub record IsSound (phase : PhaseAt) (potentials : List ℤ) : Type 0 where
@@ -44,10 +46,15 @@ pub visits_covers : (phase : PhaseAt) (potentials : List ℤ) → IsSound phase 
 visits_covers phase potentials sound budget _ _ _ _ _ (void box splits rest is) ready = void_covers box rest is
 visits_covers phase potentials sound budget _ _ _ _ _ (leaf box splits multipliers rest is) ready =
     leaf_covers box multipliers rest (chosen_are_sized phase potentials box multipliers sound.fine sound.plane ready.fits is.chosen) is.bound
+visits_covers phase potentials sound budget _ _ _ _ _ (affine box splits multipliers rest is) ready =
+    affine_covers box multipliers rest (chosen_affine_are_sized phase potentials box multipliers sound.fine sound.plane ready.fits is.chosen) is.bound
 visits_covers phase potentials sound budget _ _ _ _ _ (split box left right place cut splits between after nodes middle rest opened less half l r) ready =
     split_covers box left right place cut nodes middle rest half.parts
     (visits_covers phase potentials sound budget left (splits + 1) nodes middle between l (ready_left phase box left right place cut ready half.parts))
     (visits_covers phase potentials sound budget right between middle rest after r (ready_right phase box left right place cut ready half.parts))
+
+above_from : (bound e w : ℤ) → pos 0 ≤ℤ bound → bound ≤ℤ (e -ℤ w) → w ≤ℤ e
+above_from bound e w h k = omega (arith, ints, h, k)
 
 -- no constitution of a covered box lies below
 pub covers_all : (phase : PhaseAt) (potentials : List ℤ) → IsSound phase potentials → (box : Box) (nodes rest : List Node) → Covers phase potentials box nodes rest → IsReady phase box →
@@ -55,10 +62,9 @@ pub covers_all : (phase : PhaseAt) (potentials : List ℤ) → IsSound phase pot
 covers_all phase potentials sound _ _ _ (void_covers box rest is) ready counts h held =
     absurd (is.without (subst (HasContent phase) (single_corner phase.lattice box counts is.single h) held))
 covers_all phase potentials sound _ _ _ (leaf_covers box multipliers rest sized is) ready counts h held =
-    from_bound (bound_of phase potentials box multipliers) (pos 65536 *ℤ energy phase counts) (worth potentials (content phase counts)) is (sound.lawful.below box multipliers counts ready.fits h)
-  where
-    from_bound : (b e w : ℤ) → pos 0 ≤ℤ b → b ≤ℤ (e -ℤ w) → w ≤ℤ e
-    from_bound b e w h k = omega (arith, ints, h, k)
+    above_from (bound_of phase potentials box multipliers) (pos 65536 *ℤ energy phase counts) (worth potentials (content phase counts)) is (sound.lawful.below box multipliers counts ready.fits h)
+covers_all phase potentials sound _ _ _ (affine_covers box multipliers rest sized is) ready counts h held =
+    above_from (affine_bound_of phase potentials box multipliers) (pos 65536 *ℤ energy phase counts) (worth potentials (content phase counts)) is (sound.lawful.affine_below box multipliers counts ready.fits h)
 covers_all phase potentials sound _ _ _ (split_covers box left right place cut nodes middle rest is l r) ready counts h held =
     elim ((parts_are phase box left right place cut ready is).covers counts h) [
       | inl a ↦ covers_all phase potentials sound left nodes middle l (ready_left phase box left right place cut ready is) counts a held
@@ -72,6 +78,7 @@ pub visits_splits : (phase : PhaseAt) (potentials : List ℤ) (budget : ℕ) (bo
     IsReady phase box → after < splits + lists_in phase box
 visits_splits phase potentials budget _ _ _ _ _ (void box splits rest is) ready = omega (arith, some_list phase box ready)
 visits_splits phase potentials budget _ _ _ _ _ (leaf box splits multipliers rest is) ready = omega (arith, some_list phase box ready)
+visits_splits phase potentials budget _ _ _ _ _ (affine box splits multipliers rest is) ready = omega (arith, some_list phase box ready)
 visits_splits phase potentials budget _ _ _ _ _ (split box left right place cut splits between after nodes middle rest opened less half l r) ready =
     let a = visits_splits phase potentials budget left (splits + 1) nodes middle between l (ready_left phase box left right place cut ready half.parts) in
     let b = visits_splits phase potentials budget right between middle rest after r (ready_right phase box left right place cut ready half.parts) in
@@ -124,6 +131,7 @@ pub visits_again : (phase : PhaseAt) (potentials : List ℤ) (budget : ℕ) (box
     (more : List Node) × Visits phase potentials budget box splits more others after
 visits_again phase potentials budget _ _ _ _ _ (void box splits rest is) others = (Empty ∷ others, void box splits others is)
 visits_again phase potentials budget _ _ _ _ _ (leaf box splits multipliers rest is) others = (Leaf multipliers ∷ others, leaf box splits multipliers others is)
+visits_again phase potentials budget _ _ _ _ _ (affine box splits multipliers rest is) others = (Affine multipliers ∷ others, affine box splits multipliers others is)
 visits_again phase potentials budget _ _ _ _ _ (split box left right place cut splits between after nodes middle rest opened less half l r) others =
     let b = visits_again phase potentials budget right between middle rest after r others in
     let a = visits_again phase potentials budget left (splits + 1) nodes middle between l b.0 in

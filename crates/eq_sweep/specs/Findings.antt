@@ -3,7 +3,7 @@ use Rattle.std.specs.Prelude.{◌≡◌, ℕ, ◌+◌, ◌/◌, ◌<◌, ◌≤�
 use Rattle.std.specs.List.{AllByRecursion}
 use Rattle.cef_core.specs.declared.phase.PhaseAt.{PhaseAt}
 use Rattle.cef_tree.specs.declared.tree.Node.{Node}
-use Rattle.cef_tree.specs.declared.tree.Node.TheVariants.{Split, Leaf, Empty}
+use Rattle.cef_tree.specs.declared.tree.Node.TheVariants.{Split, Leaf, Affine, Empty}
 use Rattle.cef_core.specs.Shapes.{shape}
 use Rattle.cef_box.specs.declared.range.Range.{Range}
 use Rattle.cef_box.specs.Boxes.{IsSingle}
@@ -15,7 +15,7 @@ use Rattle.eq_sweep.specs.declared.examining.Finding.{Finding}
 use Rattle.eq_sweep.specs.declared.examining.Finding.TheVariants.{Found, Below, Open}
 use Rattle.eq_sweep.specs.declared.visiting.Visit.{Visit}
 use Rattle.eq_sweep.specs.declared.visiting.Visit.TheVariants.{Closed as all_closed, Below as ends_below, Out as ends_out}
-use Rattle.eq_sweep.specs.Visits.{IsVoid, IsAbove, IsBelowAtCorner, IsOpen, Visits, Stops, below, out}
+use Rattle.eq_sweep.specs.Visits.{IsVoid, IsAbove, IsAboveAffine, IsBelowAtCorner, IsOpen, Visits, Stops, below, out}
 
 -- a tight box of the phase that is not empty
 pub record IsReady (phase : PhaseAt) (box : List (List Range)) : Type 0 where
@@ -35,6 +35,7 @@ pub record IsMiddle (box : List (List Range)) (place cut : ℕ) : Type 0 where
 abbrev pub IsNodeOf : PhaseAt → List ℤ → List (List Range) → Node → Type 0
 IsNodeOf phase potentials box Empty = IsVoid phase box
 IsNodeOf phase potentials box (Leaf multipliers) = IsAbove phase potentials box multipliers
+IsNodeOf phase potentials box (Affine multipliers) = IsAboveAffine phase potentials box multipliers
 IsNodeOf phase potentials box (Split place cut) = ⊥
 
 -- what is found of a box

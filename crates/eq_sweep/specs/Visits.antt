@@ -3,7 +3,7 @@
 use Rattle.std.specs.Prelude.{◌≡◌, ℕ, ◌+◌, ◌/◌, ◌≤◌, ◌<◌, List, ◌∷◌, ℤ, pos, ◌*ℤ◌, ◌≤ℤ◌, ◌<ℤ◌}
 use Rattle.cef_core.specs.declared.phase.PhaseAt.{PhaseAt}
 use Rattle.cef_tree.specs.declared.tree.Node.{Node}
-use Rattle.cef_tree.specs.declared.tree.Node.TheVariants.{Split, Leaf, Empty}
+use Rattle.cef_tree.specs.declared.tree.Node.TheVariants.{Split, Leaf, Affine, Empty}
 use Rattle.cef_core.specs.Constitutions.{HasContent, content}
 use Rattle.cef_core.specs.Energies.{energy}
 use Rattle.cef_core.specs.Worth.{worth}
@@ -11,6 +11,7 @@ use Rattle.cef_box.specs.declared.range.Range.{Range}
 use Rattle.cef_box.specs.Boxes.{IsSingle}
 use Rattle.cef_box.specs.Corners.{corner_site}
 use Rattle.cef_box.specs.Cuts.{IsCut, IsWidest}
+use Rattle.cef_phase.specs.Affine.{affine_bound_of, AreChosenAffine}
 use Rattle.cef_phase.specs.Bounds.{bound_of}
 use Rattle.cef_phase.specs.Choosing.{AreChosen}
 
@@ -31,13 +32,26 @@ pub record IsAbove (phase : PhaseAt) (potentials : List ℤ) (box : List (List R
   pub bound : pos 0 ≤ℤ bound_of phase potentials box multipliers
 
 -- else it is below 0
-pub record IsUnclear (phase : PhaseAt) (potentials : List ℤ) (box : List (List Range)) : Type 0 where
+pub record IsLow (phase : PhaseAt) (potentials : List ℤ) (box : List (List Range)) : Type 0 where
   pub not_void : IsVoid phase box → ⊥
   pub multipliers : List ℤ
   pub chosen : AreChosen phase potentials box multipliers
   pub bound : bound_of phase potentials box multipliers <ℤ pos 0
 
--- third: the corner point lies below the plane
+-- third: the affine bound with its chosen multipliers is at least 0
+pub record IsAboveAffine (phase : PhaseAt) (potentials : List ℤ) (box : List (List Range)) (multipliers : List ℤ) : Type 0 where
+  pub low : IsLow phase potentials box
+  pub chosen : AreChosenAffine phase potentials box multipliers
+  pub bound : pos 0 ≤ℤ affine_bound_of phase potentials box multipliers
+
+-- else that is below 0 too
+pub record IsUnclear (phase : PhaseAt) (potentials : List ℤ) (box : List (List Range)) : Type 0 where
+  pub low : IsLow phase potentials box
+  pub multipliers : List ℤ
+  pub chosen : AreChosenAffine phase potentials box multipliers
+  pub bound : affine_bound_of phase potentials box multipliers <ℤ pos 0
+
+-- fourth: the corner point lies below the plane
 pub record IsBelowAtCorner (phase : PhaseAt) (potentials : List ℤ) (box : List (List Range)) : Type 0 where
   pub unclear : IsUnclear phase potentials box
   pub corner : IsBelow phase potentials (corner_site phase.lattice box)
@@ -60,6 +74,8 @@ pub data Visits (phase : PhaseAt) (potentials : List ℤ) (budget : ℕ) : List 
       Visits phase potentials budget box splits (Empty ∷ rest) rest splits
   leaf : (box : List (List Range)) (splits : ℕ) (multipliers : List ℤ) (rest : List Node) → IsAbove phase potentials box multipliers →
       Visits phase potentials budget box splits (Leaf multipliers ∷ rest) rest splits
+  affine : (box : List (List Range)) (splits : ℕ) (multipliers : List ℤ) (rest : List Node) → IsAboveAffine phase potentials box multipliers →
+      Visits phase potentials budget box splits (Affine multipliers ∷ rest) rest splits
   split : (box left right : List (List Range)) (place cut splits between after : ℕ) (nodes middle rest : List Node) →
       IsOpen phase potentials box → splits < budget → IsHalved phase.lattice box place cut left right →
       Visits phase potentials budget left (splits + 1) nodes middle between →

@@ -3,11 +3,10 @@
 ghost use Rattle.std.specs.Prelude.{◌≡◌, ◌≤◌, ◌<◌, ◌^◌, ◌≤ℤ◌, ◌<ℤ◌, ◌*ℤ◌, pos, length, IfOk, unsigned_abs};
 ghost use Rattle.std.specs.Bool.{OnTrue, OnFalse};
 ghost use Rattle.cef_box.specs.Corners.{corner_site};
-ghost use Rattle.cef_box.specs.Terms.{FitsBox, shape_of_phase};
 ghost use Rattle.cef_core.specs.Constitutions.{HasShape};
 ghost use Rattle.cef_core.specs.Phases.{IsFine};
 ghost use Rattle.cef_core.specs.Shapes.{shape};
-ghost use Rattle.cef_phase.specs.Bounds.{IsPlane, AreMultipliers, bound_of};
+ghost use Rattle.cef_phase.specs.Bounds.{IsPlane};
 ghost use Rattle.eq_sweep.specs.Findings.{IsReady, IsFinding};
 ghost use Rattle.eq_sweep.specs.Visits.{IsVoid, IsBelow};
 
@@ -69,29 +68,20 @@ fn is_below<P: PhaseModel>(model: &P, site: &Site, potentials: &[i128]) -> bool
     }
 }
 
-/// Whether the bound of the box is at least 0 with these multipliers.
-fn is_above<P: PhaseModel>(
-    model: &P,
-    range: &BoxRange,
-    potentials: &[i128],
-    multipliers: &[i128],
-) -> bool
-    requires fine { IsFine (P.phase_of model.now) }
-    requires plane { IsPlane (2 ^ 116) (P.phase_of model.now) potentials.now }
-    requires fits { FitsBox (shape_of_phase (P.phase_of model.now)) range.now }
-    requires multipliers { AreMultipliers (P.phase_of model.now) multipliers.now }
-    ensures yes { OnTrue result (pos 0 ≤ℤ bound_of (P.phase_of model.now) potentials.now range.now multipliers.now) }
-    ensures no { OnFalse result (bound_of (P.phase_of model.now) potentials.now range.now multipliers.now <ℤ pos 0) }
-{
-    model.bound(range, potentials, multipliers) >= 0
-}
-
 /// A leaf with these multipliers.
 fn leaf(alloc: Global, multipliers: &[i128]) -> Result<Node, AllocError>
     ensures { IfOk result (λ node. node ≡ Node.Leaf multipliers.now) }
 {
     let multipliers = Items::from_vec(Vec::from_slice(alloc, multipliers)?);
     Ok(Node::Leaf { multipliers })
+}
+
+/// An affine leaf with these multipliers.
+fn affine_leaf(alloc: Global, multipliers: &[i128]) -> Result<Node, AllocError>
+    ensures { IfOk result (λ node. node ≡ Node.Affine multipliers.now) }
+{
+    let multipliers = Items::from_vec(Vec::from_slice(alloc, multipliers)?);
+    Ok(Node::Affine { multipliers })
 }
 
 /// What is found of a box. `corner` becomes its corner point; `multipliers` is written over.
@@ -117,9 +107,12 @@ pub(crate) fn examine<P: PhaseModel>(
     if is_void(phase, range, corner) {
         return Ok(Finding::Found(Node::Empty));
     }
-    model.choose(range, potentials, multipliers);
-    if is_above(model, range, potentials, multipliers) {
+    if model.choose(range, potentials, multipliers) >= 0 {
         let leaf = leaf(alloc, multipliers)?;
+        return Ok(Finding::Found(leaf));
+    }
+    if model.choose_affine(range, potentials, multipliers) >= 0 {
+        let leaf = affine_leaf(alloc, multipliers)?;
         return Ok(Finding::Found(leaf));
     }
     if is_below(model, corner, potentials) {

@@ -6,9 +6,9 @@ use Rattle.std.specs.Fmt.{decimal, signed_decimal}
 use Rattle.cal_limits.specs.declared.TheConstants.{MOST_COUNT, MOST_NUMBER}
 use Rattle.cal_scan.specs.Words.{same_word}
 use Rattle.cef_tree.specs.declared.tree.Node.{Node}
-use Rattle.cef_tree.specs.declared.tree.Node.TheVariants.{Split, Leaf, Empty}
+use Rattle.cef_tree.specs.declared.tree.Node.TheVariants.{Split, Leaf, Affine, Empty}
 use Rattle.cef_report.specs.Spelled.{IsNumber, Spans}
-use Rattle.cef_report.specs.Spelled.Spans.{leaf, none, cut}
+use Rattle.cef_report.specs.Spelled.Spans.{leaf, affine, none, cut}
 use Rattle.cal_scan.specs.Lines.{Word}
 use Rattle.cef_report.specs.Texts.{node_words}
 use Rattle.cal_lines.specs.Reading.{Runs}
@@ -18,12 +18,13 @@ use Rattle.cal_lines.proofs.Lines.{IsWords, Kind}
 use Rattle.cal_lines.proofs.Numbers.{natural-found, natural-again, decimal_word}
 use Rattle.cal_scan.proofs.NameLists.{same-found, same-again, cond_found}
 use Rattle.cal_lines.proofs.Sorts.{words_from, plain_from, integers-found, integers-again, integers_plain}
-use Rattle.eq_text.specs.Kinds.{leaf_made, split_made, split_of, node_of}
+use Rattle.eq_text.specs.Kinds.{leaf_made, affine_made, split_made, split_of, node_of}
 use Rattle.eq_text.specs.Parsing.{node_next}
 
 abbrev pub IsNode : Node → Type 0
 IsNode (Split place at) = (place ≤ MOST_COUNT) × (at ≤ MOST_COUNT)
 IsNode (Leaf vs) = (0 < length vs) × AllByRecursion IsNumber vs
+IsNode (Affine vs) = (0 < length vs) × AllByRecursion IsNumber vs
 IsNode Empty = Unit {0}
 
 split-found : (p c : Word) (o u : Option ℕ) (n : Node) → natural_of MOST_COUNT p ≡ o → natural_of MOST_COUNT c ≡ u → split_made o u ≡ Some n → (codes "S" ∷ p ∷ c ∷ [] ≡ node_words n) × IsNode n
@@ -38,20 +39,43 @@ split-found p c (Some a) (Some b) n ep ec e =
 wide : MOST_NUMBER < 10 ^ 64
 wide = omega arith
 
+some_numbers : (v : Word) (ws : List Word) (vs : List ℤ) → v ∷ ws ≡ map signed_decimal vs → 0 < length vs
+some_numbers v ws [] e = absurd cc
+some_numbers v ws (u ∷ us) e = omega arith
+
 leaf-found : (v : Word) (ws : List Word) (o : Option (List ℤ)) (n : Node) → all_integers MOST_NUMBER (v ∷ ws) ≡ o → leaf_made o ≡ Some n → (codes "L" ∷ v ∷ ws ≡ node_words n) × IsNode n
 leaf-found v ws None n is e = absurd cc
 leaf-found v ws (Some vs) n is e =
     let same : Leaf vs ≡ n = cc in
     let f = integers-found MOST_NUMBER wide (v ∷ ws) vs is in
-    subst (λ (n : Node). (codes "L" ∷ v ∷ ws ≡ node_words n) × IsNode n) same (ap (λ (t : List Word). codes "L" ∷ t) f.0, (some vs f.0, f.1))
-  where
-    some : (vs : List ℤ) → v ∷ ws ≡ map signed_decimal vs → 0 < length vs
-    some [] e = absurd cc
-    some (u ∷ us) e = omega arith
+    subst (λ (n : Node). (codes "L" ∷ v ∷ ws ≡ node_words n) × IsNode n) same (ap (λ (t : List Word). codes "L" ∷ t) f.0, (some_numbers v ws vs f.0, f.1))
+
+affine-found : (v : Word) (ws : List Word) (o : Option (List ℤ)) (n : Node) → all_integers MOST_NUMBER (v ∷ ws) ≡ o → affine_made o ≡ Some n → (codes "A" ∷ v ∷ ws ≡ node_words n) × IsNode n
+affine-found v ws None n is e = absurd cc
+affine-found v ws (Some vs) n is e =
+    let same : Affine vs ≡ n = cc in
+    let f = integers-found MOST_NUMBER wide (v ∷ ws) vs is in
+    subst (λ (n : Node). (codes "A" ∷ v ∷ ws ≡ node_words n) × IsNode n) same (ap (λ (t : List Word). codes "A" ∷ t) f.0, (some_numbers v ws vs f.0, f.1))
 
 pub cond_either : {A : Type 0} (b : Bool) (x y : Option A) (v : A) → cond b x y ≡ Some v → ((b ≡ true) × (x ≡ Some v)) ⊎ ((b ≡ false) × (y ≡ Some v))
 cond_either true x y v e = inl (refl, e)
 cond_either false x y v e = inr (refl, e)
+
+split_by_rest : (w v : Word) (ws : List Word) (n : Node) → w ≡ codes "S" → split_of v ws ≡ Some n → (w ∷ v ∷ ws ≡ node_words n) × IsNode n
+split_by_rest w v [] n is e = absurd cc
+split_by_rest w v (c ∷ []) n is e = let f = split-found v c (natural_of MOST_COUNT v) (natural_of MOST_COUNT c) n refl refl e in (ap (λ (t : Word). t ∷ v ∷ c ∷ []) is ∙ f.0, f.1)
+split_by_rest w v (c ∷ x ∷ ws) n is e = absurd cc
+
+-- what two words or more say where the first is not that of a leaf
+abbrev not_leaf : Word → Word → List Word → Option Node
+not_leaf w v ws = cond (same_word w (codes "A")) (affine_made (all_integers MOST_NUMBER (v ∷ ws))) (cond (same_word w (codes "S")) (split_of v ws) None)
+
+not_leaf-found : (w v : Word) (ws : List Word) (n : Node) → not_leaf w v ws ≡ Some n → (w ∷ v ∷ ws ≡ node_words n) × IsNode n
+not_leaf-found w v ws n e =
+    elim (cond_either (same_word w (codes "A")) (affine_made (all_integers MOST_NUMBER (v ∷ ws))) (cond (same_word w (codes "S")) (split_of v ws) None) n e) [
+      | inl h ↦ let f = affine-found v ws (all_integers MOST_NUMBER (v ∷ ws)) n refl h.1 in (ap (λ (t : Word). t ∷ v ∷ ws) (same-found w (codes "A") h.0) ∙ f.0, f.1)
+      | inr h ↦ let p = cond_found (same_word w (codes "S")) (split_of v ws) n h.1 in split_by_rest w v ws n (same-found w (codes "S") p.0) p.1
+    ]
 
 node-found : (ws : List Word) (n : Node) → node_of ws ≡ Some n → (ws ≡ node_words n) × IsNode n
 unfolding node_of
@@ -61,30 +85,36 @@ node-found (w ∷ []) n e =
     let same : Empty ≡ n = cc in
     subst (λ (n : Node). (w ∷ [] ≡ node_words n) × IsNode n) same (ap (λ (v : Word). v ∷ []) (same-found w (codes "E") p.0), tt)
 node-found (w ∷ v ∷ ws) n e =
-    elim (cond_either (same_word w (codes "L")) (leaf_made (all_integers MOST_NUMBER (v ∷ ws))) (cond (same_word w (codes "S")) (split_of v ws) None) n e) [
+    elim (cond_either (same_word w (codes "L")) (leaf_made (all_integers MOST_NUMBER (v ∷ ws))) (not_leaf w v ws) n e) [
       | inl h ↦ let f = leaf-found v ws (all_integers MOST_NUMBER (v ∷ ws)) n refl h.1 in (ap (λ (t : Word). t ∷ v ∷ ws) (same-found w (codes "L") h.0) ∙ f.0, f.1)
-      | inr h ↦ let p = cond_found (same_word w (codes "S")) (split_of v ws) n h.1 in by_rest w v ws n (same-found w (codes "S") p.0) p.1
+      | inr h ↦ not_leaf-found w v ws n h.1
     ]
-  where
-    by_rest : (w v : Word) (ws : List Word) (n : Node) → w ≡ codes "S" → split_of v ws ≡ Some n → (w ∷ v ∷ ws ≡ node_words n) × IsNode n
-    by_rest w v [] n is e = absurd cc
-    by_rest w v (c ∷ []) n is e = let f = split-found v c (natural_of MOST_COUNT v) (natural_of MOST_COUNT c) n refl refl e in (ap (λ (t : Word). t ∷ v ∷ c ∷ []) is ∙ f.0, f.1)
-    by_rest w v (c ∷ x ∷ ws) n is e = absurd cc
 
 no_leaf : same_word (codes "S") (codes "L") ≡ false
 unfolding same_word
 no_leaf = refl
 
+no_affine : same_word (codes "S") (codes "A") ≡ false
+unfolding same_word
+no_affine = refl
+
+affine_no_leaf : same_word (codes "A") (codes "L") ≡ false
+unfolding same_word
+affine_no_leaf = refl
+
 node-again : (n : Node) → IsNode n → node_of (node_words n) ≡ Some n
 unfolding node_of
-node-again (Split p c) fits = rw (no_leaf, same-again (codes "S"), natural-again MOST_COUNT p (omega (arith, fits.0)) fits.0, natural-again MOST_COUNT c (omega (arith, fits.1)) fits.1) refl
+node-again (Split p c) fits = rw (no_leaf, no_affine, same-again (codes "S"), natural-again MOST_COUNT p (omega (arith, fits.0)) fits.0, natural-again MOST_COUNT c (omega (arith, fits.1)) fits.1) refl
 node-again (Leaf []) fits = absurd (omega (arith, fits.0))
 node-again (Leaf (v ∷ vs)) fits = rw (same-again (codes "L")) (ap leaf_made (integers-again MOST_NUMBER wide (v ∷ vs) fits.1))
+node-again (Affine []) fits = absurd (omega (arith, fits.0))
+node-again (Affine (v ∷ vs)) fits = rw (affine_no_leaf, same-again (codes "A")) (ap affine_made (integers-again MOST_NUMBER wide (v ∷ vs) fits.1))
 node-again Empty fits = rw (same-again (codes "E")) refl
 
 node-plain : (n : Node) → IsNode n → IsWords (node_words n)
 node-plain (Split p c) fits = words_from (codes "S") (decimal p ∷ decimal c ∷ []) (plain_from (codes "S") refl) (decimal_word p (omega (arith, fits.0)), (decimal_word c (omega (arith, fits.1)), tt))
 node-plain (Leaf vs) fits = words_from (codes "L") (map signed_decimal vs) (plain_from (codes "L") refl) (integers_plain MOST_NUMBER wide vs fits.1)
+node-plain (Affine vs) fits = words_from (codes "A") (map signed_decimal vs) (plain_from (codes "A") refl) (integers_plain MOST_NUMBER wide vs fits.1)
 node-plain Empty fits = plain_from (codes "E") refl
 
 pub node_kind : Kind node_words IsNode node_of
@@ -95,6 +125,7 @@ node_kind = record { found = node-found; again = node-again; plain = node-plain;
 -- the nodes of a box and then those of so many subtrees
 pub runs_from_spans : (nodes rest : List Node) → Spans nodes rest → (beside : ℕ) → Runs node_next IsNode beside rest → Runs node_next IsNode (suc beside) nodes
 runs_from_spans _ _ (leaf vs rest some numbers) beside runs = ((some, numbers), runs)
+runs_from_spans _ _ (affine vs rest some numbers) beside runs = ((some, numbers), runs)
 runs_from_spans _ _ (none rest) beside runs = (tt, runs)
 runs_from_spans _ _ (cut place at ns middle rest p a first second) beside runs =
     ((p, a), runs_from_spans ns middle first (suc beside) (runs_from_spans middle rest second beside runs))
@@ -109,6 +140,7 @@ box_within : (fuel : ℕ) (nodes : List Node) → length nodes ≤ fuel → (bes
 box_within fuel [] le beside runs = absurd runs
 box_within zero (n ∷ ns) le beside runs = absurd (omega (arith, le))
 box_within (suc fuel) (Leaf vs ∷ ns) le beside runs = record { rest = ns; spans = leaf vs ns runs.0.0 runs.0.1; runs = runs.1; shorter = omega arith }
+box_within (suc fuel) (Affine vs ∷ ns) le beside runs = record { rest = ns; spans = affine vs ns runs.0.0 runs.0.1; runs = runs.1; shorter = omega arith }
 box_within (suc fuel) (Empty ∷ ns) le beside runs = record { rest = ns; spans = none ns; runs = runs.1; shorter = omega arith }
 box_within (suc fuel) (Split place at ∷ ns) le beside runs =
     let first = box_within fuel ns (omega (arith, le)) (suc beside) runs.1 in

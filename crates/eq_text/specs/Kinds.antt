@@ -7,7 +7,7 @@ use Rattle.cal_scan.specs.Lines.{Word}
 use Rattle.cef_core.specs.Lattices.{is_lattice}
 use Rattle.cef_report.specs.declared.entry.Entry.{Entry}
 use Rattle.cef_tree.specs.declared.tree.Node.{Node}
-use Rattle.cef_tree.specs.declared.tree.Node.TheVariants.{Split, Leaf, Empty}
+use Rattle.cef_tree.specs.declared.tree.Node.TheVariants.{Split, Leaf, Affine, Empty}
 use Rattle.cal_lines.specs.Words.{natural_of, integer_of}
 use Rattle.cal_lines.specs.Kinds.{all_integers, if_some, with_count}
 
@@ -106,6 +106,10 @@ abbrev pub leaf_made : Option (List ℤ) → Option Node
 leaf_made None = None
 leaf_made (Some multipliers) = Some (Leaf multipliers)
 
+abbrev pub affine_made : Option (List ℤ) → Option Node
+affine_made None = None
+affine_made (Some multipliers) = Some (Affine multipliers)
+
 abbrev pub split_made : Option ℕ → Option ℕ → Option Node
 split_made None cut = None
 split_made (Some place) None = None
@@ -118,4 +122,7 @@ split_of place _ = None
 unfoldable pub node_of : List Word → Option Node
 node_of [] = None
 node_of (w ∷ []) = cond (same_word w (codes "E")) (Some Empty) None
-node_of (w ∷ v ∷ ws) = cond (same_word w (codes "L")) (leaf_made (all_integers MOST_NUMBER (v ∷ ws))) (cond (same_word w (codes "S")) (split_of v ws) None)
+node_of (w ∷ v ∷ ws) =
+    cond (same_word w (codes "L")) (leaf_made (all_integers MOST_NUMBER (v ∷ ws)))
+    (cond (same_word w (codes "A")) (affine_made (all_integers MOST_NUMBER (v ∷ ws)))
+    (cond (same_word w (codes "S")) (split_of v ws) None))

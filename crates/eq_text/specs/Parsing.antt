@@ -5,7 +5,7 @@ use Rattle.cal_scan.specs.Lines.{Word}
 use Rattle.cef_report.specs.declared.entry.Entry.{Entry}
 use Rattle.cef_report.specs.declared.report.Report.{Report}
 use Rattle.cef_tree.specs.declared.tree.Node.{Node}
-use Rattle.cef_tree.specs.declared.tree.Node.TheVariants.{Split, Leaf, Empty}
+use Rattle.cef_tree.specs.declared.tree.Node.TheVariants.{Split, Leaf, Affine, Empty}
 use Rattle.cef_tree.specs.declared.tree.Tree.{Tree}
 use Rattle.cal_lines.specs.Reading.{Lines, Read, ◌>>=◌, both, of_line, many, pair, only}
 use Rattle.cal_lines.specs.Choosing.{each}
@@ -30,6 +30,7 @@ entries_at phases = both (λ n entries. entries) (of_line count_of) (entry_lines
 abbrev pub node_next : Node → ℕ → ℕ
 node_next (Split place cut) beside = suc (suc beside)
 node_next (Leaf multipliers) beside = beside
+node_next (Affine multipliers) beside = beside
 node_next Empty beside = beside
 
 unfoldable pub nodes_at : Read (List Node)

@@ -1,6 +1,6 @@
 -- Boxes of the phases, and planes under them.
 use Rattle.std.proofs.Common.{◌≡◌, ℕ, ◌≤◌, ◌<◌, List, [], ◌∷◌, Option, Some, arith, length, ap, subst, sym, ◌∙◌}
-use Rattle.std.specs.Prelude.{◌^◌, ℤ, negsuc}
+use Rattle.std.specs.Prelude.{◌*◌, ◌^◌, ℤ, negsuc, unsigned_abs, sum}
 use Rattle.std.specs.List.{AllByRecursion}
 use Rattle.std.proofs.lemmas.Int.{ints}
 use Rattle.std.proofs.lemmas.List.{length-map}
@@ -13,7 +13,6 @@ use Rattle.cef_box.specs.Flat.{ranges}
 use Rattle.cef_box.specs.Terms.{FitsBox, shape_of_phase}
 use Rattle.cef_box.proofs.Flats.{length-ranges}
 use Rattle.cef_phase.specs.Bounds.{IsPlane}
-use Rattle.cef_phase.proofs.Walking.{plane_wider}
 use Rattle.sample_phases.specs.Samples.{HasPlanes}
 use Rattle.sample_phases.proofs.Boxes.{box_there}
 
@@ -34,6 +33,16 @@ plane_there limit a b potentials e h = rw e h
 
 pub one_place : (a b : PhaseAt) (width n : ℕ) → a ≡ b → shape b.sites ≡ width ∷ [] → n ≡ 1 → n ≡ length a.sites
 one_place a b width n e h one = omega (arith, one, ap (λ (p : PhaseAt). length p.sites) e, length-map b.sites (λ (row : List (Option ℕ)). length row), ap length h)
+
+-- potentials within a limit are within a wider one
+potentials_wider : (n : ℕ) (potentials : List ℤ) → AllByRecursion (λ m. unsigned_abs m * n ≤ 2 ^ 116) potentials →
+    AllByRecursion (λ m. unsigned_abs m * n ≤ 2 ^ 117) potentials
+potentials_wider n [] h = tt
+potentials_wider n (m ∷ potentials) h = (omega (arith, h.0), potentials_wider n potentials h.1)
+
+pub plane_wider : (phase : PhaseAt) (potentials : List ℤ) → IsPlane (2 ^ 116) phase potentials → IsPlane (2 ^ 117) phase potentials
+plane_wider phase potentials h =
+    record { components = h.components; small = potentials_wider (phase.lattice * sum phase.ratios) potentials h.small }
 
 pub ruleset planes = (plane_there, plane_wider, one_place, box_there)
 

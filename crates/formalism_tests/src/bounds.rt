@@ -19,7 +19,7 @@ use std::test::Fail;
 /// Potentials of two elements, in 2^-16 µJ for each tenth of a mol.
 const POTENTIALS: [i128; 2] = [-40_000_000_000_000, -40_000_000_000_000];
 
-/// The multiplier that is chosen for a box, and the bound with it.
+/// The multiplier that is chosen for a bound of a box, and that bound.
 #[derive(Clone, Copy, Debug, PartialEq, Eq)]
 struct Bounded {
     multiplier: i128,
@@ -32,6 +32,7 @@ fn choose_and_bound(
     phase: &PhaseAt,
     range: &BoxRange,
     potentials: &[i128],
+    by_planes: bool,
 ) -> Result<Bounded, Fail>
     requires fine { IsFine phase.now }
     requires sites { shape phase.now.sites ≡ 2 ∷ [] }
@@ -41,21 +42,27 @@ fn choose_and_bound(
     let logs = Logs::build(alloc, 600_000)?;
     let model = SumPhase::build(alloc, phase, &logs)?;
     let mut multipliers = [0; 1];
-    model.choose(range, potentials, multipliers.as_mut_slice());
-    let bound = model.bound(range, potentials, multipliers.as_slice());
+    let bound = if by_planes {
+        model.choose_affine(range, potentials, multipliers.as_mut_slice());
+        model.affine_bound(range, potentials, multipliers.as_slice())
+    } else {
+        model.choose(range, potentials, multipliers.as_mut_slice());
+        model.bound(range, potentials, multipliers.as_slice())
+    };
     Ok(Bounded {
         multiplier: multipliers[0],
         bound,
     })
 }
 
-/// The chosen multiplier and the bound of a box of a solution of two elements.
+/// The chosen multiplier and a bound of a box of a solution of two elements.
 #[tactic(auto, using(crate::proofs::Boxes::two_sites))]
 fn bounded_between(
     alloc: Global,
     phase: &PhaseAt,
     low: &[u16],
     high: &[u16],
+    by_planes: bool,
 ) -> Result<Bounded, Fail>
     requires fine { IsFine phase.now }
     requires lattice { phase.now.lattice ≡ 10 }
@@ -68,7 +75,7 @@ fn bounded_between(
         return Err("no box of the phase".into());
     }
     let range = pair_of(alloc, low, high)?;
-    choose_and_bound(alloc, phase, &range, &POTENTIALS)
+    choose_and_bound(alloc, phase, &range, &POTENTIALS, by_planes)
 }
 
 /// The box of one sublattice of two sites.
@@ -138,7 +145,7 @@ fn chosen_multipliers_and_bounds_of_an_ideal_solution(rt: HostRuntime) -> Result
     let phase = pair(alloc)?;
     for place in 0..5 {
         let expected = &EXPECTED[place];
-        let found = bounded_between(alloc, &phase, &expected.low, &expected.high)?;
+        let found = bounded_between(alloc, &phase, &expected.low, &expected.high, false)?;
         assert_eq!(rt; found, expected.bounded);
     }
     Ok(())
@@ -186,8 +193,40 @@ fn bounds_of_a_solution_with_magnetism(rt: HostRuntime) -> Result<(), Fail> {
     let phase = magnetic_pair(alloc)?;
     for place in 0..4 {
         let expected = &WITH_MAGNETISM[place];
-        let found = bounded_between(alloc, &phase, &expected.low, &expected.high)?;
+        let found = bounded_between(alloc, &phase, &expected.low, &expected.high, false)?;
         assert_eq!(rt; found, expected.bounded);
+    }
+    Ok(())
+}
+
+/// The affine bounds of the same boxes.
+const BY_PLANES: [Bounded; 4] = [
+    Bounded {
+        multiplier: 0,
+        bound: -485_901_034_651_648,
+    },
+    Bounded {
+        multiplier: 0,
+        bound: -1_145_238_706_094_080,
+    },
+    Bounded {
+        multiplier: 0,
+        bound: -61_465_671_827_456,
+    },
+    Bounded {
+        multiplier: 0,
+        bound: -922_359_469_539_328,
+    },
+];
+
+#[test]
+fn affine_bounds_of_a_solution_with_magnetism(rt: HostRuntime) -> Result<(), Fail> {
+    let alloc = rt.alloc();
+    let phase = magnetic_pair(alloc)?;
+    for place in 0..4 {
+        let expected = &WITH_MAGNETISM[place];
+        let found = bounded_between(alloc, &phase, &expected.low, &expected.high, true)?;
+        assert_eq!(rt; found, BY_PLANES[place]);
     }
     Ok(())
 }

@@ -2,17 +2,20 @@
 use Rattle.std.proofs.Common.{◌≡◌, ℕ, zero, suc, ◌+◌, ◌*◌, ◌-◌, ◌<◌, ◌≤◌, List, [], ◌∷◌, ◌++◌, length, refl, sym, ap}
 use Rattle.std.proofs.Common.{◌∙◌, subst, arith, Option, Some, None, inl, inr, slice_get}
 use Rattle.std.specs.Prelude.{ℤ, ◌⊎◌, ◌+ℤ◌}
+use Rattle.std.specs.List.{flat_map}
 use Rattle.std.specs.Option.{option_map_or}
-use Rattle.std.proofs.lemmas.List.{length_push}
+use Rattle.std.proofs.lemmas.List.{length_push, length-append}
 use Rattle.std.proofs.lemmas.Bool.{cases_lt}
 use Rattle.std.proofs.lemmas.Option.{slice_get_within}
 use Rattle.cal_math.specs.Vectors.{at}
-use Rattle.cal_scan.specs.Lines.{Word}
+use Rattle.cal_scan.specs.Lines.{Word, Line}
 use Rattle.cef_core.specs.declared.system.System.{System}
 use Rattle.cef_path.specs.declared.finish.Finish.{Finish}
 use Rattle.cef_path.specs.declared.start.PathStart.{PathStart}
 use Rattle.cef_path.specs.declared.step.StepText.{StepText}
 use Rattle.cef_path.specs.Paths.{asked_at, StepsHold, HasFinish, GoOn, PathHolds}
+use Rattle.cef_path.specs.Spelled.{first_step_line, StandAt}
+use Rattle.cef_path.specs.Texts.{lines_of_step}
 use Rattle.eq_solve.specs.Equilibria.{IsEquilibrium}
 use Rattle.tdb_read.specs.Database.{Database}
 use Rattle.cal_select.specs.Chosen.{components_of}
@@ -26,7 +29,7 @@ use Rattle.cal_scheil.proofs.Ordering.{in_own_order}
 use Rattle.cal_scheil.proofs.Elements.{valued, selected_once, elements_of}
 use Rattle.cal_scheil.proofs.Walked.{begins, goes_on, selects, ends}
 use Rattle.path_run.specs.Steps.{first_asked, path_start, AreSteps, job_behind, asked_behind}
-use Rattle.path_run.specs.Workings.{HasOutcomes, IsSolved, HasMade}
+use Rattle.path_run.specs.Workings.{HasOutcomes, IsSolved, HasMade, line_behind}
 
 -- ---- lists with one more at their end
 
@@ -61,6 +64,20 @@ asked-front : (asked : List ℤ) (steps : List StepText) (s : StepText) (i : ℕ
 asked-front asked steps s zero le = refl
 asked-front asked steps s (suc i) le =
     ap (λ (o : Option StepText). option_map_or (λ step. step.left) o []) (get-front steps s i (omega (arith, le)))
+
+-- ---- where steps stand
+
+behind_both : (n : ℕ) (a b : List Line) → n + length (a ++ b) ≡ (n + length a) + length b
+behind_both n a b = omega (arith, length-append a b)
+
+stand-push : (n : ℕ) (steps : List StepText) (s : StepText) → StandAt n steps → s.line ≡ n + length (flat_map lines_of_step steps) →
+    StandAt n (steps ++ s ∷ [])
+stand-push n [] s stand is = (is ∙ omega arith, tt)
+stand-push n (x ∷ xs) s stand is = (
+  stand.0,
+  stand-push (n + length (lines_of_step x)) xs s stand.1
+      (is ∙ behind_both n (lines_of_step x) (flat_map lines_of_step xs)),
+)
 
 -- ---- what is asked
 
@@ -102,7 +119,7 @@ job_next db job steps walk walked =
 -- ---- one more step
 
 pub made_first : (db : Database) (job : PathJob) → IsPathJob job → HasMade db job [] (walk_of job)
-made_first db job is = record { walked = begins db job is; solved = λ i x e. absurd (none_there i x e) }
+made_first db job is = record { walked = begins db job is; solved = λ i x e. absurd (none_there i x e); stand = tt }
 
 solved_on : (db : Database) (steps : List StepText) (before after : WalkState) (step : Stepped) (line : ℕ) → HasOutcomes db →
     HasMade db before.job steps before → Takes db before step after → (i : ℕ) (x : StepText) →
@@ -153,15 +170,19 @@ solved_on db steps before after step line known made takes i x e = elim (cases_p
       equilibrium = subst (λ (a : List ℤ). IsEquilibrium system a job.gap job.budget step.report) asked takes.makes.answers;
     }
 
-pub made_on : (db : Database) (job : PathJob) (steps : List StepText) (before after : WalkState) (step : Stepped) (line : ℕ) → HasOutcomes db →
+-- the step behind these stands at the line behind them
+pub made_on : (db : Database) (job : PathJob) (steps : List StepText) (before after : WalkState) (step : Stepped) → HasOutcomes db →
     HasMade db job steps before → before.finish ≡ None → Takes db before step after → IsWalk after →
-    HasMade db job (steps ++ numbered (before.steps + 1) line step ∷ []) after
-made_on db job steps before after step line known made unfinished takes keeps = record {
-  walked = goes_on known.law db job steps before after step line known.functions made.walked unfinished takes keeps;
-  solved = subst (λ (j : PathJob). (i : ℕ) (x : StepText) → slice_get (steps ++ numbered (before.steps + 1) line step ∷ []) i ≡ Some x →
-      IsSolved db j (steps ++ numbered (before.steps + 1) line step ∷ []) i x) made.walked.same_job
-      (solved_on db steps before after step line known (subst (λ (j : PathJob). HasMade db j steps before) (sym made.walked.same_job) made) takes);
-}
+    HasMade db job (steps ++ numbered (before.steps + 1) (line_behind steps) step ∷ []) after
+made_on db job steps before after step known made unfinished takes keeps =
+    let line : ℕ = line_behind steps in
+    record {
+      walked = goes_on known.law db job steps before after step line known.functions made.walked unfinished takes keeps;
+      solved = subst (λ (j : PathJob). (i : ℕ) (x : StepText) → slice_get (steps ++ numbered (before.steps + 1) line step ∷ []) i ≡ Some x →
+          IsSolved db j (steps ++ numbered (before.steps + 1) line step ∷ []) i x) made.walked.same_job
+          (solved_on db steps before after step line known (subst (λ (j : PathJob). HasMade db j steps before) (sym made.walked.same_job) made) takes);
+      stand = stand-push first_step_line steps (numbered (before.steps + 1) line step) made.stand refl;
+    }
 
 -- ---- they are the steps of a path
 

@@ -32,8 +32,7 @@ print_on db job head before after old mid new known head_is printed unfinished p
     ∙ ap (λ (n : ℕ). append_told mid (piece (head_of job) n s)) count in
     record {
       steps = printed.steps ++ s ∷ [];
-      made = made_on db job printed.steps before after prints.step (line_behind printed.steps)
-          known printed.made unfinished prints.takes prints.keeps;
+      made = made_on db job printed.steps before after prints.step known printed.made unfinished prints.takes prints.keeps;
       appended =
           here
           ∙ ap (λ (o : Option (List ℕ)). append_told o (piece (head_of job) (length printed.steps) s)) printed.appended
@@ -54,8 +53,7 @@ print_on_partly db job head before after old mid new known head_is printed unfin
     (piece_anywhere head before.steps (before.steps + 1) 0 (line_behind printed.steps) prints.step) prints.appended)) in
     record {
       steps = printed.steps ++ s ∷ [];
-      made = made_on db job printed.steps before after prints.step (line_behind printed.steps)
-          known printed.made unfinished prints.takes prints.keeps;
+      made = made_on db job printed.steps before after prints.step known printed.made unfinished prints.takes prints.keeps;
       rest = prints.rest;
       appended = subst (λ (t : List ℕ). AppendsAllBut prints.rest old new t) (sym (opened-push job printed.steps s))
           (all_but-behind old mid new (opened job printed.steps) (piece (head_of job) (length printed.steps) s) prints.rest printed.appended here);

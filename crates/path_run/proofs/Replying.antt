@@ -21,6 +21,7 @@ use Rattle.path_run.specs.Workings.{HasOutcomes, HasMade, PrintedSteps, PrintedS
 use Rattle.path_run.specs.Workings.{PrintsFault, with_text, without_text, PrintsFaultPartly}
 use Rattle.path_run.proofs.Texts.{told-twice, all_but-behind, path_is}
 use Rattle.path_run.proofs.Making.{systems_of, are_steps, go_on_front, go_on_all, no_finish_first, path_holds, balanced}
+use Rattle.path_run.proofs.Spelling.{spelled}
 use Rattle.path_run.proofs.Causes.{NamedIfOpen, refuses}
 
 -- ---- whole steps
@@ -115,6 +116,7 @@ prints_path db job (s ∷ ss) walk finish known made is =
       path = path_of job (s ∷ ss) walk finish;
       are_steps = are_steps db job (s ∷ ss) walk systems.0 known made systems.1;
       holds = path_holds db job s ss walk finish systems.0 made.walked is systems.1;
+      spelled = spelled db job s ss walk finish known made;
       balanced = λ c lt. balanced db job s ss walk made.walked c;
       printed_is = path_is job s ss (path_of job (s ∷ ss) walk finish) refl refl refl refl refl;
     }

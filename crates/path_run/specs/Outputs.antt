@@ -10,6 +10,7 @@ use Rattle.cef_path.specs.declared.path.PathText.{PathText}
 use Rattle.cef_path.specs.declared.step.StepText.{StepText}
 use Rattle.cef_path.specs.Paths.{GoOn, PathHolds}
 use Rattle.cef_path.specs.Texts.{head_text, text_of_step, path_text}
+use Rattle.cef_path.specs.Spelled.{IsSpelledPath}
 use Rattle.tdb_read.specs.Database.{Database}
 use Rattle.cal_scheil.specs.declared.job.PathJob.{PathJob}
 use Rattle.path_run.specs.Steps.{first_asked, path_start, AreSteps, RefusesStep}
@@ -26,13 +27,14 @@ opened job (step ∷ steps) = head_of job ++ flat_map text_of_step (step ∷ ste
 
 -- ---- what is printed
 
--- The text of one path that holds, each step an equilibrium of the system that the database gives. Of each element what became solid,
--- what remains and what was lost add to what was asked at first.
+-- The text of one path that holds, within the limits of texts, each step an equilibrium of the system that the database gives. Of each
+-- element what became solid, what remains and what was lost add to what was asked at first.
 pub record PrintsPath (db : Database) (job : PathJob) (printed : List ℕ) : Type 0 where
   pub systems : ℕ → System
   pub path : PathText
   pub are_steps : AreSteps db job systems path.steps
   pub holds : PathHolds systems (path_start db job) path
+  pub spelled : IsSpelledPath path
   pub balanced : (c : ℕ) → c < length (first_asked db job) →
       at (first_asked db job) c ≡ (at path.solids c +ℤ at path.remains c) +ℤ at path.lost c
   pub printed_is : printed ≡ path_text path

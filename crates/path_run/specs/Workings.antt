@@ -9,7 +9,7 @@ use Rattle.cef_core.specs.declared.system.System.{System}
 use Rattle.cef_path.specs.declared.step.StepText.{StepText}
 use Rattle.cef_path.specs.Paths.{asked_at}
 use Rattle.cef_path.specs.Texts.{lines_of_step, text_of_step}
-use Rattle.cef_path.specs.Spelled.{first_step_line}
+use Rattle.cef_path.specs.Spelled.{first_step_line, StandAt}
 use Rattle.temp_fun.specs.Functions.{AreFunctions}
 use Rattle.tdb_read.specs.Database.{Database}
 use Rattle.eq_solve.specs.Equilibria.{IsEquilibrium}
@@ -38,10 +38,11 @@ pub record IsSolved (db : Database) (job : PathJob) (steps : List StepText) (i :
   pub system_is : IsSystemOf db (path_job_at job step.report.t) system
   pub equilibrium : IsEquilibrium system (asked_at (first_asked db job) steps i) job.gap job.budget step.report
 
--- the walk has made these steps
+-- the walk has made these steps, and each stands where it was printed
 pub record HasMade (db : Database) (job : PathJob) (steps : List StepText) (walk : WalkState) : Type 0 where
   pub walked : Walked db job steps walk
   pub solved : (i : ℕ) (step : StepText) → slice_get steps i ≡ Some step → IsSolved db job steps i step
+  pub stand : StandAt first_step_line steps
 
 -- the line at which the step behind these begins
 abbrev pub line_behind : List StepText → ℕ

@@ -227,6 +227,35 @@ static JOINT: [&[u8]; 19] = [
     b"end",
 ];
 
+/// What separates of a solution of two elements that do not like one another.
+static SEPARATED: [&[u8]; 25] = [
+    b"equilibrium 1",
+    b"temperature 80000",
+    b"lattice 10",
+    b"elements A B",
+    b"phases SOL",
+    b"asked 5000000000 5000000000",
+    b"entries 2",
+    b"entry SOL 500000000 1 9",
+    b"entry SOL 500000000 9 1",
+    b"total 5000000000 5000000000",
+    b"energy -362324505000000000",
+    b"tolerance 0",
+    b"gap 999999999847413",
+    b"potentials -2381083475967 -2381083475967",
+    b"tree SOL",
+    b"S 0 5",
+    b"S 0 2",
+    b"S 0 1",
+    b"A 19971644358655",
+    b"L 0",
+    b"A 62823243087871",
+    b"S 0 8",
+    b"A 56490106552319",
+    b"A 43716943118335",
+    b"end",
+];
+
 /// The path of the melt from 1001.5 K, in steps of 1 K.
 static PATH: [&[u8]; 69] = [
     b"path 1",
@@ -314,6 +343,7 @@ pub fn lines(name: &str) -> &'static [&'static [u8]] {
         "ENERGIES" => ENERGIES.as_slice(),
         "JOINT" => JOINT.as_slice(),
         "PATH" => PATH.as_slice(),
+        "SEPARATED" => SEPARATED.as_slice(),
         _ => &[],
     }
 }

@@ -8,7 +8,7 @@ use cef_core::{PhaseAt, Site};
 use cef_phase::SumPhase;
 use cef_tree::Node;
 use eq_sweep::{Swept, sweep};
-use sample_phases::{pair, single, vacant};
+use sample_phases::{magnetic_pair, pair, single, vacant};
 use std::alloc::{AllocError, Global};
 use std::test::Fail;
 
@@ -16,6 +16,9 @@ use std::test::Fail;
 const LOW: i128 = -40_000_000_000_000;
 
 const HIGH: i128 = -20_000_000_000_000;
+
+/// The same for the solution with magnetism: the bound of all its lists is below 0 here, and the affine bound is not.
+const BETWEEN: i128 = -170_000_000_000_000;
 
 /// The model of each phase, in order.
 fn models_of<'a>(
@@ -88,15 +91,31 @@ fn is_out_at(swept: &Swept, place: usize) -> bool {
     }
 }
 
-/// The multiplier of a tree that is one leaf of one sublattice.
-fn only_multiplier(swept: &Swept) -> Option<i128> {
+/// The only node of the only tree.
+fn only_node(swept: &Swept) -> Option<&Node> {
     let Swept::Closed(trees) = swept else {
         return None;
     };
     let [tree] = trees.as_slice() else {
         return None;
     };
-    let [Node::Leaf { multipliers }] = tree.nodes.as_slice() else {
+    let [node] = tree.nodes.as_slice() else {
+        return None;
+    };
+    Some(node)
+}
+
+/// The multiplier of a tree that is one leaf of one sublattice.
+fn leaf_multiplier(swept: &Swept) -> Option<i128> {
+    let Some(Node::Leaf { multipliers }) = only_node(swept) else {
+        return None;
+    };
+    multipliers.as_slice().first().copied()
+}
+
+/// The multiplier of a tree that is one affine leaf of one sublattice.
+fn affine_multiplier(swept: &Swept) -> Option<i128> {
+    let Some(Node::Affine { multipliers }) = only_node(swept) else {
         return None;
     };
     multipliers.as_slice().first().copied()
@@ -104,14 +123,8 @@ fn only_multiplier(swept: &Swept) -> Option<i128> {
 
 /// Whether the tree is one box without content.
 fn is_only_empty(swept: &Swept) -> bool {
-    let Swept::Closed(trees) = swept else {
-        return false;
-    };
-    let [tree] = trees.as_slice() else {
-        return false;
-    };
-    match tree.nodes.as_slice() {
-        [Node::Empty] => true,
+    match only_node(swept) {
+        Some(Node::Empty) => true,
         _ => false,
     }
 }
@@ -120,7 +133,18 @@ fn is_only_empty(swept: &Swept) -> bool {
 fn a_phase_above_the_plane_is_closed_by_one_leaf(rt: HostRuntime) -> Result<(), Fail> {
     let alloc = rt.alloc();
     let found = swept_pair(alloc, LOW, 0)?;
-    assert_eq!(rt; only_multiplier(&found), Some(40_000_000_000_000));
+    assert_eq!(rt; leaf_multiplier(&found), Some(40_000_000_000_000));
+    Ok(())
+}
+
+#[test]
+fn planes_below_the_parameters_close_what_their_lows_leave_open(
+    rt: HostRuntime,
+) -> Result<(), Fail> {
+    let alloc = rt.alloc();
+    let phase = magnetic_pair(alloc)?;
+    let found = swept(alloc, &[phase], BETWEEN, 0)?;
+    assert_eq!(rt; affine_multiplier(&found), Some(38_928_000_000_000));
     Ok(())
 }
 

@@ -45,9 +45,34 @@ L 0 0
 end
 ";
 
+/// Trees with every kind of node.
+const EVERY_NODE: &[u8] = b"equilibrium 1
+temperature 100000
+lattice 10
+elements A
+phases ALPHA BETA
+asked 10000000000
+entries 1
+entry BETA 1000000000 10
+total 10000000000
+energy -1500000000000000000
+tolerance 0
+gap 999999999847413
+potentials -9836953599999
+tree ALPHA
+A 0
+tree BETA
+S 0 5
+S 1 2
+A -7 1329227995784915872903807060280344576
+E
+L 12 0
+end
+";
+
 #[test]
 fn a_text_is_read_and_written_again(rt: HostRuntime) -> Result<(), Fail> {
-    for text in [ONE_ELEMENT, TWO_ELEMENTS] {
+    for text in [ONE_ELEMENT, TWO_ELEMENTS, EVERY_NODE] {
         assert!(rt; text.len() < 1000);
         let report = read_report(rt.alloc(), text)?;
         let written = write_report(rt.alloc(), &report)?;

@@ -48,6 +48,11 @@ fn node_of(alloc: Global, words: &[&[u8]]) -> Result<Option<Node>, AllocError>
                     None => Ok(None),
                     Some(multipliers) => Ok(Some(Node::Leaf { multipliers })),
                 }
+            } else if is_word(*word, b"A") {
+                match all_integers(alloc, rest, MOST_NUMBER)? {
+                    None => Ok(None),
+                    Some(multipliers) => Ok(Some(Node::Affine { multipliers })),
+                }
             } else if is_word(*word, b"S") {
                 match rest {
                     [place, cut] => Ok(split_made(*place, *cut)),
@@ -77,6 +82,7 @@ fn open_behind(node: &Node, open_trees: u64) -> u64
     match node {
         Node::Split { .. } => open_trees + 1,
         Node::Leaf { .. } => open_trees - 1,
+        Node::Affine { .. } => open_trees - 1,
         Node::Empty => open_trees - 1,
     }
 }

@@ -29,6 +29,7 @@ fn put_node(alloc: Global, out: &mut Vec<u8>, node: &Node) -> Result<(), AllocEr
     match node {
         Node::Split { place, cut } => put_split(alloc, out, *place, *cut)?,
         Node::Leaf { multipliers } => put_numbers_line(alloc, out, b"L", multipliers.as_slice())?,
+        Node::Affine { multipliers } => put_numbers_line(alloc, out, b"A", multipliers.as_slice())?,
         Node::Empty => out.extend_from_slice(b"E\n")?,
     }
     Ok(())

@@ -38,12 +38,12 @@ few_of x k power h few p one =
     sixteen : (k : ℕ) → k ≤ 16 → 16 ≤ k → k ≡ 16
     sixteen k few most = omega arith
 
-pub overflow_add-sum-in-series : goal.overflow_add-sum-in-series
-overflow_add-sum-in-series c =
+pub overflow_add-sum : goal.overflow_add-sum
+overflow_add-sum c =
     let x : ℕ = 2 * c.args.i - 1 in
     let next : c.series.sum + c.series.power / (2 * c.series.terms + 1) ≡ terms x (c.series.terms + 1) = next_sum x _ _ _ c.series.invariant.so_far c.series.invariant.left in
     let bound : terms x (c.series.terms + 1) ≤ 2000000000000000 = terms-le x (c.series.terms + 1) (omega arith) in
-    omega arith
+    omega (arith, next, bound, c.summand-sum.ensures)
 
 pub series-smaller : goal.series-smaller
 series-smaller c =
@@ -53,8 +53,8 @@ series-smaller c =
 pub series-preserved : goal.series-preserved
 series-preserved c = record {
   few = few_of (2 * c.args.i - 1) c.series.terms c.series.power (omega arith) (omega arith) c.series.invariant.left (omega arith);
-  left = next_left _ _ _ c.series.invariant.left;
-  so_far = next_sum _ _ _ _ c.series.invariant.so_far c.series.invariant.left;
+  left = c.divided-power.ensures ∙ next_left _ _ _ c.series.invariant.left;
+  so_far = ap (λ n. c.series.sum + n) c.summand-sum.ensures ∙ next_sum _ _ _ _ c.series.invariant.so_far c.series.invariant.left;
 }
 
 whole : (x k : ℕ) → 3 ≤ x → k ≤ 16 → left_of x (2 * k + 1) ≡ 0 → terms x k ≡ terms x 15

@@ -26,7 +26,7 @@ left_of-requires-clause-high c =
     let is : c.in_ok-ordered.ordered ≡ account_in_order c.args.account.now c.args.system.now.elements = search rules in
     let keeps : IsAccount (account_in_order c.args.account.now c.args.system.now.elements) = ordered c.args.account.now c.args.system.now.elements c.requires.can.account_is c.requires.system.elements c.requires.system.few_elements in
     let answers = rw (c.as_slice-2.ensures, is) at c.in-Ok.ensures.answers in
-    (answered c.args.system.now (account_in_order c.args.account.now c.args.system.now.elements) c.args.job.now.gap c.args.job.now.budget c.in-Ok.report refl keeps answers).high
+    (answered c.args.system.now (account_in_order c.args.account.now c.args.system.now.elements) c.args.job.now.gap c.args.job.now.budget c.in-Ok.field-0.report refl keeps answers).high
 
 pub account_after-requires-clause-account : goal.account_after-requires-clause-account
 account_after-requires-clause-account c =
@@ -48,7 +48,7 @@ account_after-requires-clause-totals c =
     let is : c.in_ok-ordered.ordered ≡ account_in_order c.args.account.now c.args.system.now.elements = search rules in
     let keeps : IsAccount (account_in_order c.args.account.now c.args.system.now.elements) = ordered c.args.account.now c.args.system.now.elements c.requires.can.account_is c.requires.system.elements c.requires.system.few_elements in
     let answers = rw (c.as_slice-2.ensures, is) at c.in-Ok.ensures.answers in
-    rw (c.as_slice-in-Ok.ensures, is) (answered c.args.system.now (account_in_order c.args.account.now c.args.system.now.elements) c.args.job.now.gap c.args.job.now.budget c.in-Ok.report refl keeps answers).within
+    rw (c.as_slice-in-Ok.ensures, is) (answered c.args.system.now (account_in_order c.args.account.now c.args.system.now.elements) c.args.job.now.gap c.args.job.now.budget c.in-Ok.field-0.report refl keeps answers).within
 
 pub account_after-requires-clause-left : goal.account_after-requires-clause-left
 account_after-requires-clause-left c = rw (c.as_slice-in-Ok.ensures, c.as_slice-in-Ok-2.ensures) c.in_ok-left-in-Ok.ensures.within
@@ -59,11 +59,11 @@ returns-in_ok-after-in-Ok-clause-makes c =
     let before : Account = account_in_order c.args.account.now c.args.system.now.elements in
     let keeps : IsAccount before = ordered c.args.account.now c.args.system.now.elements c.requires.can.account_is c.requires.system.elements c.requires.system.few_elements in
     let answers = rw (c.as_slice-2.ensures, is) at c.in-Ok.ensures.answers in
-    let moved : IsMoved before c.in-Ok.report.totals c.in_ok-left-in-Ok.left c.in_ok-after-in-Ok.after = rw (c.as_slice-in-Ok.ensures, c.as_slice-in-Ok-2.ensures, is) at c.in_ok-after-in-Ok.ensures in
+    let moved : IsMoved before c.in-Ok.field-0.report.totals c.in_ok-left-in-Ok.left c.in_ok-after-in-Ok.after = rw (c.as_slice-in-Ok.ensures, c.as_slice-in-Ok-2.ensures, is) at c.in_ok-after-in-Ok.ensures in
     record {
       answers = answers;
       left_is = c.in_ok-left-in-Ok.ensures.left;
-      moves = moves_from c.args.system.now c.args.job.now.liquid c.in-Ok.report c.in_ok-left-in-Ok.left before c.in_ok-after-in-Ok.after refl keeps answers.holds c.in_ok-left-in-Ok.ensures.left moved;
+      moves = moves_from c.args.system.now c.args.job.now.liquid c.in-Ok.field-0.report c.in_ok-left-in-Ok.left before c.in_ok-after-in-Ok.after refl keeps answers.holds c.in_ok-left-in-Ok.ensures.left moved;
     }
 
 pub returns-in_ok-after-in-Ok-clause-next : goal.returns-in_ok-after-in-Ok-clause-next
@@ -72,13 +72,13 @@ returns-in_ok-after-in-Ok-clause-next c =
     let before : Account = account_in_order c.args.account.now c.args.system.now.elements in
     let keeps : IsAccount before = ordered c.args.account.now c.args.system.now.elements c.requires.can.account_is c.requires.system.elements c.requires.system.few_elements in
     let answers = rw (c.as_slice-2.ensures, is) at c.in-Ok.ensures.answers in
-    let moved : IsMoved before c.in-Ok.report.totals c.in_ok-left-in-Ok.left c.in_ok-after-in-Ok.after = rw (c.as_slice-in-Ok.ensures, c.as_slice-in-Ok-2.ensures, is) at c.in_ok-after-in-Ok.ensures in
-    let facts = answered c.args.system.now before c.args.job.now.gap c.args.job.now.budget c.in-Ok.report refl keeps answers in
+    let moved : IsMoved before c.in-Ok.field-0.report.totals c.in_ok-left-in-Ok.left c.in_ok-after-in-Ok.after = rw (c.as_slice-in-Ok.ensures, c.as_slice-in-Ok-2.ensures, is) at c.in_ok-after-in-Ok.ensures in
+    let facts = answered c.args.system.now before c.args.job.now.gap c.args.job.now.budget c.in-Ok.field-0.report refl keeps answers in
     let each : length c.in_ok-left-in-Ok.left ≡ length before.names = c.in_ok-left-in-Ok.ensures.left.one_each ∙ ap length answers.holds.same_elements in
     record {
       left_each = each ∙ sym (ap length moved.same_names);
       left_high = λ k. let l = (c.in_ok-left-in-Ok.ensures.within k).1 in let t = facts.high k in omega (arith, ints, l, t);
-      account_is = moved_on before c.in_ok-after-in-Ok.after c.in-Ok.report.totals c.in_ok-left-in-Ok.left keeps each facts.within c.in_ok-left-in-Ok.ensures.within moved;
+      account_is = moved_on before c.in_ok-after-in-Ok.after c.in-Ok.field-0.report.totals c.in_ok-left-in-Ok.left keeps each facts.within c.in_ok-left-in-Ok.ensures.within moved;
       same_elements = λ name. rw moved.same_names (c.requires.same_elements name);
     }
 

@@ -1,11 +1,7 @@
-use Rattle.std.proofs.Common.{rules, ◌≡◌, ◌≤◌, ◌<◌, ◌+◌, ◌∷◌, [], arith, length, drop, ℕ, ℤ, SFits, List}
-use Rattle.std.specs.Int.{w128}
-use Rattle.std.specs.Prelude.{pos}
-use Rattle.std.proofs.lemmas.Int.{to_z-of_z}
+use Rattle.std.proofs.Common.{◌≤◌, ◌<◌, arith, length}
 use Rattle.cef_phase.specs.declared.row.Row.{Row}
-use Rattle.cef_phase.specs.Walks.{mixing_of, slopes_at, ranges_at, part_at, secant_of, all_secants, IsFirstOpen}
+use Rattle.cef_phase.specs.Walks.{mixing_of, ranges_at, part_at, secant_of, all_secants, IsFirstOpen}
 use Rattle.cef_phase.proofs.Secants.{secants_step, secants_end}
-use Rattle.cef_phase.proofs.Slopes.{length-slopes_of, row_slopes}
 use Rattle.cef_phase.proofs.choose.choose_row.Goals as goal
 
 pub each-preserved : goal.each-preserved
@@ -13,7 +9,7 @@ each-preserved c =
     let row : Row = c.args.row.now in
     let there : c.each.site < length (ranges_at row) = omega (arith, c.each-test.true, c.requires.row.each) in
     record {
-      exact = secants_step (part_at row) (mixing_of row) (slopes_at row) row.low.now row.high.now c.each.site c.each.best.multiplier c.best_with-best.result.multiplier _ (row_slopes row c.each.site c.each-test.true) there c.best_with-best.ensures.exact c.each.invariant.exact;
+      exact = secants_step (part_at row) (mixing_of row) row.slopes.now row.low.now row.high.now c.each.site c.each.best.multiplier c.best_with-best.result.multiplier _ c.each-test.true there c.best_with-best.ensures.exact c.each.invariant.exact;
       best = c.best_with-best.ensures.best;
     }
 
@@ -26,5 +22,5 @@ pub with_zero-requires-clause-chosen : goal.with_zero-requires-clause-chosen
 with_zero-requires-clause-chosen c =
     let row : Row = c.args.row.now in
     let found : IsFirstOpen row c.in-Some.start = c.first_open.ensures.found c.in-Some.start c.in-Some.is in
-    let all : length (slopes_at row) ≤ c.each.site = omega (arith, c.each-test.false, length-slopes_of row.potentials.now row.ratio row.sites.now) in
-    secants_end (part_at row) (mixing_of row) (slopes_at row) (ranges_at row) c.each.site c.each.best.multiplier (secant_of row c.in-Some.start) _ (all_secants row) all found.first c.each.invariant.exact
+    let all : length row.slopes.now ≤ c.each.site = omega (arith, c.each-test.false) in
+    secants_end (part_at row) (mixing_of row) row.slopes.now (ranges_at row) c.each.site c.each.best.multiplier (secant_of row c.in-Some.start) _ (all_secants row) all found.first c.each.invariant.exact

@@ -1,7 +1,4 @@
-use Rattle.std.proofs.Common.{rules, SFits}
 use Rattle.std.specs.Prelude.{pos}
-use Rattle.std.specs.Int.{w128}
-use Rattle.std.proofs.lemmas.Int.{to_z-of_z}
 use Rattle.cef_phase.specs.declared.row.Row.{Row}
 use Rattle.cef_phase.specs.Walks.{part_at, all_secants}
 use Rattle.cef_phase.proofs.Betters.{zero_worse, zero_behind}
@@ -10,5 +7,5 @@ use Rattle.cef_phase.proofs.choose.with_zero.Goals as goal
 pub returns-then-leaves_out_zero-clause-chosen : goal.returns-then-leaves_out_zero-clause-chosen
 returns-then-leaves_out_zero-clause-chosen c =
     let row : Row = c.args.row.now in
-    let fits : SFits w128 c.args.best.multiplier = search rules in
-    simp to_z-of_z (zero_behind (part_at row) (pos 0) c.args.best.multiplier (all_secants row) c.requires.chosen (zero_worse row.mix.now.lattice (part_at row) _ _ _ _ c.requires.best c.if-leaves_out_zero.ensures))
+    rw c.best_of.ensures.exact
+    (zero_behind (part_at row) (pos 0) c.args.best.multiplier (all_secants row) c.requires.chosen (zero_worse row.mix.now.lattice (part_at row) _ _ _ _ c.requires.best c.if-leaves_out_zero.ensures))

@@ -7,7 +7,7 @@ use Rattle.eq_cert.proofs.checking.check.Goals as goal
 pub returns-in-Ok-None-clause-holds : goal.returns-in-Ok-None-clause-holds
 returns-in-Ok-None-clause-holds g c =
     let meets : MeetsRules c.args.system.now c.args.report.now = search rules in
-    holds_from_kept c.args.system.now (lawful_from g.P.PhaseModel.phase_of c.args.models.now c.args.system.now c.requires.models g.met.P.PhaseModel.below) c.args.report.now c.requires.spelled c.requires.system meets
+    holds_from_kept c.args.system.now (lawful_from g.P.PhaseModel.phase_of c.args.models.now c.args.system.now c.requires.models g.met.P.PhaseModel.below g.met.P.PhaseModel.affine_below) c.args.report.now c.requires.spelled c.requires.system meets
 
 pub first_broken-found-requires-clause-lines : goal.first_broken-found-requires-clause-lines
 first_broken-found-requires-clause-lines g c = lines_few c.args.report.now c.args.first_line c.requires.spelled c.requires.lines

@@ -28,7 +28,7 @@ returns-in-Below-clause-below g c =
     let phases = map g.P.PhaseModel.phase_of c.args.phases.now in
     let visit = subst (IsVisit phase c.args.potentials.now c.args.budget c.phases.splits) c.in-Below.is c.in_ok-found.ensures in
     let exact : IsSweep phases c.args.potentials.now c.args.budget (Below c.phases.place c.in-Below.site) = comes_stops c.args.potentials.now c.args.budget phases c.phases.place c.phases.trees c.phases.splits phase (below c.in-Below.site) (model_at g.P.PhaseModel.phase_of c.args.phases.now c.phases.place c.index-phases-place.result c.phases-test.true c.index-phases-place.is) visit c.phases.invariant in
-    let sound = all_sound g.P.PhaseModel.phase_of c.args.potentials.now (λ m. record { below = g.met.P.PhaseModel.below m c.args.potentials.now; exactly = g.met.P.PhaseModel.exactly m c.args.potentials.now }) c.args.phases.now c.requires.fine c.requires.planes in
+    let sound = all_sound g.P.PhaseModel.phase_of c.args.potentials.now (λ m. record { below = g.met.P.PhaseModel.below m c.args.potentials.now; exactly = g.met.P.PhaseModel.exactly m c.args.potentials.now; affine_below = g.met.P.PhaseModel.affine_below m c.args.potentials.now }) c.args.phases.now c.requires.fine c.requires.planes in
     (sweep_tells phases c.args.potentials.now c.args.budget (Below c.phases.place c.in-Below.site) sound exact).below
 
 pub returns-in-Out-clause-exact : goal.returns-in-Out-clause-exact
@@ -43,7 +43,7 @@ returns-in-Out-clause-out g c =
     let phases = map g.P.PhaseModel.phase_of c.args.phases.now in
     let visit = subst (IsVisit phase c.args.potentials.now c.args.budget c.phases.splits) c.in-Out.is c.in_ok-found.ensures in
     let exact : IsSweep phases c.args.potentials.now c.args.budget (Out c.phases.place) = comes_stops c.args.potentials.now c.args.budget phases c.phases.place c.phases.trees c.phases.splits phase out (model_at g.P.PhaseModel.phase_of c.args.phases.now c.phases.place c.index-phases-place.result c.phases-test.true c.index-phases-place.is) visit c.phases.invariant in
-    let sound = all_sound g.P.PhaseModel.phase_of c.args.potentials.now (λ m. record { below = g.met.P.PhaseModel.below m c.args.potentials.now; exactly = g.met.P.PhaseModel.exactly m c.args.potentials.now }) c.args.phases.now c.requires.fine c.requires.planes in
+    let sound = all_sound g.P.PhaseModel.phase_of c.args.potentials.now (λ m. record { below = g.met.P.PhaseModel.below m c.args.potentials.now; exactly = g.met.P.PhaseModel.exactly m c.args.potentials.now; affine_below = g.met.P.PhaseModel.affine_below m c.args.potentials.now }) c.args.phases.now c.requires.fine c.requires.planes in
     (sweep_tells phases c.args.potentials.now c.args.budget (Out c.phases.place) sound exact).out
 
 pub phases-preserved : goal.phases-preserved
@@ -60,12 +60,12 @@ pub returns-clause-covered : goal.returns-clause-covered
 returns-clause-covered g c =
     let phases = map g.P.PhaseModel.phase_of c.args.phases.now in
     let exact : IsSweep phases c.args.potentials.now c.args.budget (Closed c.phases.trees) = comes_done c.args.potentials.now c.args.budget phases c.phases.place c.phases.trees c.phases.splits (omega (arith, c.phases-test.false, length-map c.args.phases.now g.P.PhaseModel.phase_of)) c.phases.invariant in
-    let sound = all_sound g.P.PhaseModel.phase_of c.args.potentials.now (λ m. record { below = g.met.P.PhaseModel.below m c.args.potentials.now; exactly = g.met.P.PhaseModel.exactly m c.args.potentials.now }) c.args.phases.now c.requires.fine c.requires.planes in
+    let sound = all_sound g.P.PhaseModel.phase_of c.args.potentials.now (λ m. record { below = g.met.P.PhaseModel.below m c.args.potentials.now; exactly = g.met.P.PhaseModel.exactly m c.args.potentials.now; affine_below = g.met.P.PhaseModel.affine_below m c.args.potentials.now }) c.args.phases.now c.requires.fine c.requires.planes in
     (sweep_tells phases c.args.potentials.now c.args.budget (Closed c.phases.trees) sound exact).covered
 
 pub returns-clause-above : goal.returns-clause-above
 returns-clause-above g c =
     let phases = map g.P.PhaseModel.phase_of c.args.phases.now in
     let exact : IsSweep phases c.args.potentials.now c.args.budget (Closed c.phases.trees) = comes_done c.args.potentials.now c.args.budget phases c.phases.place c.phases.trees c.phases.splits (omega (arith, c.phases-test.false, length-map c.args.phases.now g.P.PhaseModel.phase_of)) c.phases.invariant in
-    let sound = all_sound g.P.PhaseModel.phase_of c.args.potentials.now (λ m. record { below = g.met.P.PhaseModel.below m c.args.potentials.now; exactly = g.met.P.PhaseModel.exactly m c.args.potentials.now }) c.args.phases.now c.requires.fine c.requires.planes in
+    let sound = all_sound g.P.PhaseModel.phase_of c.args.potentials.now (λ m. record { below = g.met.P.PhaseModel.below m c.args.potentials.now; exactly = g.met.P.PhaseModel.exactly m c.args.potentials.now; affine_below = g.met.P.PhaseModel.affine_below m c.args.potentials.now }) c.args.phases.now c.requires.fine c.requires.planes in
     (sweep_tells phases c.args.potentials.now c.args.budget (Closed c.phases.trees) sound exact).above
