@@ -102,7 +102,7 @@ fn answer(alloc: Global, row: &str) -> Result<String, AllocError> {
     let words = words_of(alloc, parts.next().unwrap_or(""))?;
     let wanted = parts.next().unwrap_or("");
     let mut files = files_of(alloc, database, parts.next())?;
-    let mut out = MemorySink::new(alloc, 4096, 1 << 20)?;
+    let mut out = MemorySink::new(alloc, 4096, 1 << 22)?;
     let status = run(alloc, words.as_slice(), &mut files, &mut out).number();
     let text = marked(alloc, out.written())?;
     if wanted.is_empty() {
